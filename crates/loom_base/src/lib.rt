@@ -8,6 +8,8 @@ mod memory;
 mod name;
 mod numbers;
 mod positions;
+#[cfg(test)]
+mod tests;
 
 pub use limits::{
     MAX_BARS, MAX_CAVITIES, MAX_CELLS, MAX_EDITS, MAX_FORMULA_DEPTH, MAX_FORMULA_NODES,

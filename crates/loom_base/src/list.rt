@@ -88,3 +88,30 @@ impl<T: Drop> List<T> {
         self.items[at] = item;
     }
 }
+
+impl<T: Copy> List<T> {
+    /// An equal list.
+    pub fn copy(&self, alloc: Global) -> Result<List<T>, NoMemory>
+        ensures { IfOk result (λ copy. copy ≡ self.now) }
+    {
+        List::from_slice(alloc, self.items.as_slice())
+    }
+
+    /// Appends the elements of a slice; after want of memory the list is unchanged.
+    pub fn extend_from_slice(&mut self, items: &[T]) -> Result<(), NoMemory>
+        ensures ok { OnOk result (self.new ≡ self.old ++ items.now) }
+        ensures err { OnErr result (self.new ≡ self.old) }
+    {
+        self.items.extend_from_slice(items)?;
+        Ok(())
+    }
+
+    /// The list of the elements of a slice.
+    pub fn from_slice(alloc: Global, items: &[T]) -> Result<List<T>, NoMemory>
+        ensures { IfOk result (λ list. list ≡ items.now) }
+    {
+        Ok(List {
+            items: Vec::from_slice(alloc, items)?,
+        })
+    }
+}
