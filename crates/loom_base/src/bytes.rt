@@ -1,4 +1,14 @@
-ghost use Rattle.std.specs.Prelude.{◌≡◌, ◌+◌, ◌≤◌, ◌++◌, length, take, drop, min};
+ghost use Rattle.std.specs.Prelude.{◌≡◌, ◌+◌, ◌≤◌, ◌++◌, length, take, drop, min, IfOk, vec_len};
+
+use crate::NoMemory;
+use std::alloc::Global;
+
+/// So many zeros.
+pub(crate) fn zeros(alloc: Global, len: usize) -> Result<Vec<u8>, NoMemory>
+    ensures { IfOk result (λ zeros. vec_len zeros ≡ len) }
+{
+    Ok(vec![in alloc; 0; len]?)
+}
 
 /// Copies as many bytes as fit from the front of `from` into the front of the buffer.
 pub(crate) fn fill_front(buf: &mut [u8], from: &[u8]) -> usize

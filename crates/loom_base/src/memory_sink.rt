@@ -4,7 +4,7 @@ ghost use Rattle.std.specs.Io.KnownBytes.{WriteAppends};
 ghost use Rattle.loom_base.specs.Causes.{HasCause};
 ghost use Rattle.loom_base.specs.Streams.{MemorySinkState, write_fails, write_len, after_write};
 
-use crate::bytes::put_at;
+use crate::bytes::{put_at, zeros};
 use crate::{Failed, List, NoMemory, Sink};
 use std::alloc::Global;
 use std::marker::Model;
@@ -50,7 +50,7 @@ impl MemorySink {
         ensures { IfOk result (λ sink. sink ≡ record { held = []; room = room; per_call = per_call; failing = failing; calls = 0; faults = 0 }) }
     {
         Ok(MemorySink {
-            space: vec![in alloc; 0; room as usize]?,
+            space: zeros(alloc, room as usize)?,
             len: 0,
             per_call,
             failing,

@@ -29,10 +29,9 @@ pub fn write_all<K: Sink>(sink: &mut K, bytes: &[u8]) -> Result<(), Failed>
     ensures part { OnErr result (AppendsPart (K.held sink.old) (K.held sink.new) bytes.now) }
     ensures cause { HasCause (K.faults sink.old) (K.faults sink.new) result }
 {
-    let mut rest = bytes;
-    while !rest.is_empty() {
-        let count = sink.write(rest)?;
-        rest = &rest[count..];
+    let mut written = 0;
+    'writing: while written < bytes.len() {
+        written += sink.write(&bytes[written..])?;
     }
     Ok(())
 }

@@ -4,6 +4,7 @@ ghost use Rattle.std.specs.Io.KnownBytes.{ReadConsumes};
 ghost use Rattle.loom_base.specs.Causes.{HasCause, Rose};
 ghost use Rattle.loom_base.specs.Streams.{ReadsAll, Takes, TakesAtMost};
 
+use crate::bytes::zeros;
 use crate::{Failed, List, ReadStop};
 use std::alloc::Global;
 
@@ -43,10 +44,11 @@ pub fn read_all<S: Source>(
     ensures later { S.faults source.old ≤ S.faults source.new }
 {
     let most = limit as usize + 1;
-    let mut block = vec![in alloc; 0; BLOCK]?;
+    let mut storage = zeros(alloc, BLOCK)?;
+    let block = storage.as_mut_slice();
     let mut bytes = Vec::new(alloc);
-    while bytes.len() < most {
-        let room = BLOCK.min(most - bytes.len());
+    'reading: while bytes.len() < most {
+        let room = block.len().min(most - bytes.len());
         let count = source.read(&mut block[..room])?;
         if count == 0 {
             return Ok(List::from_vec(bytes));

@@ -4,7 +4,7 @@ ghost use Rattle.std.specs.Io.KnownBytes.{WriteAppends};
 ghost use Rattle.loom_base.specs.Causes.{HasCause};
 ghost use Rattle.loom_base.specs.Streams.{SteadySinkState, is_full_for, after_steady_write};
 
-use crate::bytes::put_at;
+use crate::bytes::{put_at, zeros};
 use crate::{Failed, NoMemory, Sink};
 use std::alloc::Global;
 use std::marker::Model;
@@ -37,7 +37,7 @@ impl SteadySink {
         ensures { IfOk result (λ sink. sink ≡ record { held = []; room = room; faults = 0 }) }
     {
         Ok(SteadySink {
-            space: vec![in alloc; 0; room as usize]?,
+            space: zeros(alloc, room as usize)?,
             len: 0,
             faults: 0,
         })
