@@ -1,11 +1,11 @@
 -- How bytes move between lists and buffers, and how causes add up.
-use Rattle.std.proofs.Common.{ℕ, ◌≡◌, ◌+◌, ◌-◌, ◌^◌, ◌<◌, ◌≤◌, min, List, [], ◌++◌, length, take, drop, sym, ap, subst, ◌∙◌, refl, arith, length-append, append-nil, Option, inl, inr}
+use Rattle.std.proofs.Common.{ℕ, ◌≡◌, ◌+◌, ◌-◌, ◌^◌, ◌<◌, ◌≤◌, min, List, [], ◌++◌, length, take, drop, sym, ap, subst, ◌∙◌, refl, arith, length-append, append-nil, Option, None, Some, inl, inr}
 use Rattle.std.specs.Io.KnownBytes.{Consumes, Appends, IsAtEnd, Keeps}
 use Rattle.std.proofs.KnownBytes.{Consumes-trans, Consumes-kept, Appends-trans}
 use Rattle.std.proofs.Math.Seq.{take-add}
 use Rattle.std.proofs.lemmas.List.{take-append-drop, take-append-le, take_all, take_rest, drop-drop, length-take-le, length-take, length-drop, drop_all}
 use Rattle.loom_base.specs.Causes.{Rose}
-use Rattle.loom_base.specs.Streams.{ReadsAll, TakesAtMost}
+use Rattle.loom_base.specs.Streams.{ReadsAll, Takes, TakesAtMost}
 
 -- a count that rose since a later moment rose since the earlier one
 pub rose_since : (before between now : ℕ) → before ≤ between → Rose between now → Rose before now
@@ -72,3 +72,28 @@ pub appended_more : (a b c : Option (List ℕ)) (bytes : List ℕ) (written coun
 appended_more a b c bytes written count before write =
     let rest = take_rest bytes written in
     subst (Appends a c) (ap (λ xs. take written bytes ++ take count xs) rest ∙ sym (take-add written count bytes)) (Appends-trans a b c (take written bytes) _ before write)
+
+-- ---- what the answers say of a stream that tells its bytes
+
+-- all was read: the bytes are what was left, which was no longer than the limit
+pub all_of_known : (input : List ℕ) (new : Option (List ℕ)) (limit : ℕ) (bytes : List ℕ) → ReadsAll (Some input) new limit bytes → (bytes ≡ input) × (length input ≤ limit) × (new ≡ Some [])
+all_of_known input None limit bytes all = absurd all.taken
+all_of_known input (Some rest) limit bytes all =
+    let same : input ≡ bytes = all.taken ∙ ap (λ xs. bytes ++ xs) all.at_end ∙ append-nil bytes in
+    (sym same, subst (λ (xs : List ℕ). length xs ≤ limit) (sym same) all.within, ap Some all.at_end)
+
+-- so many bytes were taken: at least as many were left
+pub takes_known : (input : List ℕ) (new : Option (List ℕ)) (count : ℕ) → Takes (Some input) new count → count ≤ length input
+takes_known input None count taken = absurd taken.1
+takes_known input (Some rest) count taken =
+    omega (arith, ap length taken.1, length-append taken.0 rest, taken.2)
+
+-- a sink that tells its bytes holds the appended ones behind those before
+pub appends_known : (before : List ℕ) (new : Option (List ℕ)) (bytes : List ℕ) → Appends (Some before) new bytes → new ≡ Some (before ++ bytes)
+appends_known before None bytes h = absurd h
+appends_known before (Some after) bytes h = ap Some h
+
+-- a count that stays where it is, below the last value, didn't rise
+pub steady_count : (count : ℕ) → count < 2 ^ 64 - 1 → Rose count count → ⊥
+steady_count count below rose =
+    elim rose [ inl above ↦ absurd (omega arith) | inr last ↦ absurd (omega (arith, last, below)) ]

@@ -2,7 +2,7 @@ ghost use Rattle.std.specs.Prelude.{◌≡◌};
 ghost use Rattle.loom_base.specs.declared.failed.ReadStop.TheVariants.{Fault, NoMemory as WantOfMemory};
 
 use crate::NoMemory;
-use std::alloc::{AllocError};
+use std::alloc::AllocError;
 use thiserror::Error;
 
 /// A read or a write failed.

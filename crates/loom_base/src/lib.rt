@@ -19,6 +19,8 @@ mod std_source;
 mod steady_sink;
 mod steady_source;
 #[cfg(test)]
+mod stream_tests;
+#[cfg(test)]
 mod tests;
 
 pub use failed::{Failed, ReadStop};

@@ -28,12 +28,13 @@ impl Model for MemorySink {
     ghost Value = { MemorySinkState };
 
     ghost view = { λ sink. record {
-        held = take sink.len sink.space.items;
-        room = vec_len sink.space;
-        per_call = sink.per_call;
-        failing = sink.failing;
-        calls = sink.calls;
-        faults = sink.faults } };
+      held = take sink.len sink.space.items;
+      room = vec_len sink.space;
+      per_call = sink.per_call;
+      failing = sink.failing;
+      calls = sink.calls;
+      faults = sink.faults;
+    } };
 
     ghost invariant = { λ sink. (sink.len ≤ vec_len sink.space) × (1 ≤ sink.per_call) };
 }

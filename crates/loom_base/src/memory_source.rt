@@ -25,11 +25,12 @@ impl Model for MemorySource {
     ghost Value = { MemorySourceState };
 
     ghost view = { λ source. record {
-        bytes = source.bytes;
-        place = source.place;
-        failing = source.failing;
-        calls = source.calls;
-        faults = source.faults } };
+      bytes = source.bytes;
+      place = source.place;
+      failing = source.failing;
+      calls = source.calls;
+      faults = source.faults;
+    } };
 
     ghost invariant = { λ source. source.place ≤ length source.bytes };
 }

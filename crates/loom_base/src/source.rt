@@ -30,11 +30,7 @@ const BLOCK: usize = 64 * 1024;
 /// Reads all that is left, where that is at most `limit` bytes.
 ///
 /// It takes at most one byte more than the limit, and stops at the first read that fails.
-pub fn read_all<S: Source>(
-    alloc: Global,
-    source: &mut S,
-    limit: u64,
-) -> Result<List<u8>, ReadStop>
+pub fn read_all<S: Source>(alloc: Global, source: &mut S, limit: u64) -> Result<List<u8>, ReadStop>
     requires { limit < 2 ^ 64 - 1 }
     ensures all { IfOk result (λ bytes. ReadsAll (S.left source.old) (S.left source.new) limit bytes) }
     ensures too_long { IsErrOf result ReadStop.TooLong → Takes (S.left source.old) (S.left source.new) (limit + 1) }

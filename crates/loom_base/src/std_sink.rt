@@ -28,7 +28,9 @@ impl<W: Write> Sink for StdSink<W> {
     /// is a flush that fails.
     fn write(&mut self, piece: &[u8]) -> Result<usize, Failed> {
         match self.writer.write(piece) {
-            Ok(count) if (count > 0 || piece.is_empty()) && self.writer.flush().is_ok() => Ok(count),
+            Ok(count) if (count > 0 || piece.is_empty()) && self.writer.flush().is_ok() => Ok(
+                count,
+            ),
             _ => {
                 self.faults = self.faults.saturating_add(1);
                 Err(Failed)

@@ -24,9 +24,10 @@ impl Model for SteadySink {
     ghost Value = { SteadySinkState };
 
     ghost view = { λ sink. record {
-        held = take sink.len sink.space.items;
-        room = vec_len sink.space;
-        faults = sink.faults } };
+      held = take sink.len sink.space.items;
+      room = vec_len sink.space;
+      faults = sink.faults;
+    } };
 
     ghost invariant = { λ sink. (sink.len ≤ vec_len sink.space) × (0 < sink.faults → sink.len ≡ vec_len sink.space) };
 }
