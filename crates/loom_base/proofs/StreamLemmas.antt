@@ -1,9 +1,9 @@
 -- How bytes move between lists and buffers, and how causes add up.
-use Rattle.std.proofs.Common.{ℕ, ◌≡◌, ◌+◌, ◌-◌, ◌^◌, ◌<◌, ◌≤◌, min, List, [], ◌++◌, length, take, drop, sym, ap, subst, ◌∙◌, refl, arith, length-append, append-nil, Option, None, Some, inl, inr}
+use Rattle.std.proofs.Common.{ℕ, ◌≡◌, ◌+◌, ◌-◌, ◌^◌, ◌<◌, ◌≤◌, min, List, [], ◌++◌, length, take, drop, sym, ap, subst, ◌∙◌, arith, length-append, append-nil, Option, None, Some, inl, inr}
 use Rattle.std.specs.Io.KnownBytes.{Consumes, Appends, IsAtEnd, Keeps}
 use Rattle.std.proofs.KnownBytes.{Consumes-trans, Consumes-kept, Appends-trans}
 use Rattle.std.proofs.Math.Seq.{take-add}
-use Rattle.std.proofs.lemmas.List.{take-append-drop, take-append-le, take_all, take_rest, drop-drop, length-take-le, length-take, length-drop, drop_all}
+use Rattle.std.proofs.lemmas.List.{take-append-drop, take-append-le, take_all, take_rest, drop-drop, length-take-le, length-drop, drop_all}
 use Rattle.loom_base.specs.Causes.{Rose}
 use Rattle.loom_base.specs.Streams.{ReadsAll, Takes, TakesAtMost}
 

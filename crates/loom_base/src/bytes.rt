@@ -7,7 +7,9 @@ use std::alloc::Global;
 pub(crate) fn zeros(alloc: Global, len: usize) -> Result<Vec<u8>, NoMemory>
     ensures { IfOk result (λ zeros. vec_len zeros ≡ len) }
 {
-    Ok(vec![in alloc; 0; len]?)
+    let mut zeros = Vec::new(alloc);
+    zeros.resize(len, 0)?;
+    Ok(zeros)
 }
 
 /// Copies as many bytes as fit from the front of `from` into the front of the buffer.

@@ -1,4 +1,4 @@
-ghost use Rattle.std.specs.Prelude.{◌≡◌, None};
+ghost use Rattle.std.specs.Prelude.{◌≡◌, ◌<◌, ◌≤◌, length, None, IfSome};
 
 use crate::{Failed, Sink};
 use std::io::Write;
@@ -27,14 +27,26 @@ impl<W: Write> Sink for StdSink<W> {
     /// Writes and flushes. A write that takes nothing of a piece that isn't empty is a fault, and so
     /// is a flush that fails.
     fn write(&mut self, piece: &[u8]) -> Result<usize, Failed> {
-        match self.writer.write(piece) {
-            Ok(count) if (count > 0 || piece.is_empty()) && self.writer.flush().is_ok() => Ok(
-                count,
-            ),
-            _ => {
+        match write_through(&mut self.writer, piece) {
+            Some(count) => Ok(count),
+            None => {
                 self.faults = self.faults.saturating_add(1);
                 Err(Failed)
             }
         }
+    }
+}
+
+/// Writes and flushes; None where either failed or nothing was taken of a piece that isn't empty.
+fn write_through<W: Write>(writer: &mut W, piece: &[u8]) -> Option<usize>
+    ensures bound { IfSome result (λ count. count ≤ length piece.now) }
+    ensures progress { IfSome result (λ count. 0 < length piece.now → 0 < count) }
+{
+    let count = writer.write(piece).ok()?;
+    writer.flush().ok()?;
+    if count > 0 || piece.is_empty() {
+        Some(count)
+    } else {
+        None
     }
 }

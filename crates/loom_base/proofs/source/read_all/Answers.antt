@@ -1,6 +1,4 @@
-use Rattle.std.proofs.Common.{rules, arith, refl, ◌≡◌, ◌+◌, ◌<◌, ◌≤◌, ℕ, length, List, take, drop, ◌++◌, length-append, sym, subst, ◌∙◌, ap}
-use Rattle.std.specs.Io.KnownBytes.{Consumes}
-use Rattle.std.proofs.KnownBytes.{Consumes-nil}
+use Rattle.std.proofs.Common.{arith, refl, ◌<◌, length, take, drop, ◌++◌, length-append}
 use Rattle.std.proofs.lemmas.List.{length-take}
 use Rattle.loom_base.proofs.StreamLemmas.{rose_since, gathered, ended, taken_with, taken_before}
 use Rattle.loom_base.proofs.source.read_all.Goals as goal
@@ -45,7 +43,7 @@ reading-preserved g c =
         c.in_ok-extend_from_slice.ensures.len,
         length-take c.in_ok-count.count (c.read.new.buf ++ drop c.min-room.result c.reading.block),
       );
-      taken = gathered _ _ _ c.reading.bytes.items c.read.new.buf _ c.extend_from_slice.new.self.items c.in_ok-count.count before.taken read.bytes.0 read.bound.0 c.in_ok-extend_from_slice.ensures.items;
+      taken = gathered _ _ _ c.reading.bytes.items c.read.new.buf (drop c.min-room.result c.reading.block) c.extend_from_slice.new.self.items c.in_ok-count.count before.taken read.bytes.0 read.bound.0 c.in_ok-extend_from_slice.ensures.items;
       later = omega (arith, before.later, read.cause.later);
     }
 
