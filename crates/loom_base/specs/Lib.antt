@@ -1,2 +1,4 @@
+pub mod Causes
 pub mod Names
+pub mod Streams
 pub mod formers
