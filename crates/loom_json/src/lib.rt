@@ -1,0 +1,8 @@
+//! JSON values: a document's value, its fields, and the one line that is printed.
+#![tactic(auto)]
+
+mod fields;
+mod text;
+
+pub use fields::{elements, member, name, number, only};
+pub use text::{JsonStop, line, read_value};
