@@ -2,6 +2,7 @@
 #![tactic(auto)]
 
 mod fields;
+pub mod shown;
 mod text;
 
 pub use fields::{elements, member, name, number, only};
