@@ -2,8 +2,11 @@
 #![tactic(auto)]
 
 mod fields;
+pub mod forms;
+mod path;
 pub mod shown;
 mod text;
 
 pub use fields::{elements, member, name, number, only};
+pub use path::{Path, ReadStop};
 pub use text::{JsonStop, line, read_value};
