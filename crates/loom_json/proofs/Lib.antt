@@ -1,4 +1,5 @@
 pub mod Floats
+pub mod Lists
 pub mod Names
 pub mod Read
 pub mod Views

@@ -85,7 +85,3 @@ is_text text d = option_map_or (λ found. bytes_eq found text) (as_str d) false
 -- whether there are so many elements, the first of them the tag
 abbrev pub is_tagged : List ℕ → ℕ → List Data → Bool
 is_tagged tag count ds = (length ds == count) && option_map_or (is_text tag) (slice_get ds 0) false
-
--- a reading of a list's rest, behind the front that was read
-abbrev pub with_front : {X : Type 0} → List X → Result (List X) (List ℕ) → Result (List X) (List ℕ)
-with_front front reading = reading >>= λ rest. Ok (front ++ rest)

@@ -51,9 +51,7 @@ pub fn required<X: Drop>(alloc: Global, found: Option<X>) -> Result<X, ReadStop>
 {
     match found {
         Some(value) => Ok(value),
-        None => Err(ReadStop::WrongShape {
-            path: Path::root(alloc),
-        }),
+        None => Err(ReadStop::here(alloc)),
     }
 }
 
@@ -64,9 +62,7 @@ pub fn keyed(alloc: Global, value: &Value, keys: &[&str]) -> Result<(), ReadStop
     if fields::only(value, keys) {
         Ok(())
     } else {
-        Err(ReadStop::WrongShape {
-            path: Path::root(alloc),
-        })
+        Err(ReadStop::here(alloc))
     }
 }
 
@@ -76,9 +72,7 @@ pub fn at_key<F: Form>(alloc: Global, value: &Value, key: &str) -> Result<F::Out
 {
     let reading = match fields::member(value, key) {
         Some(found) => F::read(alloc, found),
-        None => Err(ReadStop::WrongShape {
-            path: Path::root(alloc),
-        }),
+        None => Err(ReadStop::here(alloc)),
     };
     below(alloc, key, reading)
 }
@@ -107,9 +101,7 @@ pub fn at_index<F: Form>(
 {
     let reading = match elements.get(position) {
         Some(found) => F::read(alloc, found),
-        None => Err(ReadStop::WrongShape {
-            path: Path::root(alloc),
-        }),
+        None => Err(ReadStop::here(alloc)),
     };
     below_position(alloc, position, reading)
 }
@@ -162,9 +154,7 @@ pub fn list<F: Form>(alloc: Global, value: &Value) -> Result<List<F::Out>, ReadS
 {
     match items(value) {
         Some(elements) => each::<F>(alloc, 0, elements),
-        None => Err(ReadStop::WrongShape {
-            path: Path::root(alloc),
-        }),
+        None => Err(ReadStop::here(alloc)),
     }
 }
 

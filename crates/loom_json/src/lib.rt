@@ -5,6 +5,8 @@ mod fields;
 pub mod forms;
 mod path;
 pub mod shown;
+#[cfg(test)]
+mod tests;
 mod text;
 
 pub use fields::{elements, member, name, number, only};

@@ -7,7 +7,7 @@ use std::marker::Model;
 
 /// The path of a place in a JSON value, which contracts see as its bytes: `/key` and `/position`
 /// parts, empty for the root.
-#[derive(Drop)]
+#[derive(Debug, Drop)]
 pub struct Path {
     text: String,
 }
@@ -48,11 +48,22 @@ impl Path {
 }
 
 /// Why a value wasn't read by a form.
-#[derive(Drop)]
+#[derive(Debug, Drop)]
 pub enum ReadStop {
     /// The first place, in reading order, that isn't of its form.
     WrongShape { path: Path },
     NoMemory,
+}
+
+impl ReadStop {
+    /// The value itself isn't of its form.
+    pub fn here(alloc: Global) -> ReadStop
+        ensures { result ≡ ReadStop.WrongShape [] }
+    {
+        ReadStop::WrongShape {
+            path: Path::root(alloc),
+        }
+    }
 }
 
 impl From<NoMemory> for ReadStop {

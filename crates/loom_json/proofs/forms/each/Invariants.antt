@@ -1,6 +1,7 @@
 use Rattle.std.proofs.Common.{◌≡◌, ◌+◌, map, drop}
 use Rattle.serde_json.specs.View.{view}
-use Rattle.loom_json.specs.Forms.{each, with_front}
+use Rattle.loom_json.specs.Forms.{each}
+use Rattle.loom_json.proofs.Lists.{with_front}
 use Rattle.loom_json.proofs.forms.each.Given as goal
 
 abbrev pub invariant-loop-place : goal.invariant-loop-place
