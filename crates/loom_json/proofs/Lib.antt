@@ -1,3 +1,4 @@
+pub mod Again
 pub mod Floats
 pub mod Lists
 pub mod Names

@@ -15,7 +15,7 @@ both : (a b : Bool) → (a && b) ≡ true → (a ≡ true) × (b ≡ true)
 both true b is = (refl, is)
 both false b is = absurd (true≢false (sym is))
 
-is_name-from_IsName : (bytes : List ℕ) → IsName bytes → is_name bytes ≡ true
+pub is_name-from_IsName : (bytes : List ℕ) → IsName bytes → is_name bytes ≡ true
 is_name-from_IsName bytes name =
     let spelled = list_all-from_AllPass is_name_byte bytes name.spelled in
     let not_empty : 1 ≤ length bytes = name.not_empty in
