@@ -1,15 +1,14 @@
 -- What is shown is read again.
-use Rattle.std.proofs.Common.{◌≡◌, ℕ, suc, ◌≤◌, List, [], ◌∷◌, length, true, Some, Result, Ok, map, refl, ap}
+use Rattle.std.proofs.Common.{◌≡◌, ℕ, suc, ◌≤◌, List, [], ◌∷◌, length, true, Result, Ok, map, refl, ap}
 use Rattle.std.specs.List.{All}
 use Rattle.std.proofs.lemmas.Bool.{le-leb}
 use Rattle.std.proofs.lemmas.List.{length-map}
 use Rattle.std.proofs.lemmas.List.Elements.{All-head, All-tail}
 use Rattle.serde_json.specs.Data.{Data, number, string, array, unsigned}
-use Rattle.serde_json.specs.Find.{get}
 use Rattle.serde_json.specs.View.{items_of}
 use Rattle.loom_base.specs.Names.{IsName}
 use Rattle.loom_json.specs.Fields.{list_of, is_name}
-use Rattle.loom_json.specs.Forms.{at_key, at_optional, each, list, name_at, number_at}
+use Rattle.loom_json.specs.Forms.{each, list, name_at, number_at}
 use Rattle.loom_json.proofs.Names.{is_name-from_IsName}
 
 -- a thing is read again from what it is shown as
@@ -21,13 +20,6 @@ name_at-string bytes name = let named : is_name bytes ≡ true = is_name-from_Is
 
 pub number_at-number : (low high n : ℕ) → low ≤ n → n ≤ high → number_at low high (number (unsigned n)) ≡ Ok n
 number_at-number low high n above below = rw (le-leb low n above, le-leb n high below)
-
--- the member at a key is read as its value is
-pub at_key-found : {X : Type 0} (form : Data → Result X (List ℕ)) (key : List ℕ) (d e : Data) (x : X) → get key d ≡ Some e → form e ≡ Ok x → at_key form key d ≡ Ok x
-at_key-found form key d e x found reads = rw (found, reads)
-
-pub at_optional-found : {X : Type 0} (form : Data → Result X (List ℕ)) (key : List ℕ) (d e : Data) (x : X) → get key d ≡ Some e → form e ≡ Ok x → at_optional form key d ≡ Ok (Some x)
-at_optional-found form key d e x found reads = rw (found, reads)
 
 pub each-map : {X : Type 0} (form : Data → Result X (List ℕ)) (shows : X → Data) (position : ℕ) (xs : List X) → All (IsReadAgain form shows) xs → each form position (map shows xs) ≡ Ok xs
 each-map form shows position [] again = refl

@@ -33,5 +33,3 @@ members_have_float-put key d (member other e ms) whole rest =
     let first = first_hasn't (has_float e) (members_have_float ms) rest in
     let later = rest_hasn't (has_float e) (members_have_float ms) rest in
     members_have_float-put_at _ key other d e ms whole first later (members_have_float-put key d ms whole later)
-
-pub ruleset floats = (items_have_float-map, members_have_float-put)
