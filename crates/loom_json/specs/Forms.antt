@@ -8,6 +8,7 @@ use Rattle.loom_json.specs.declared.path.ReadStop.{ReadStop}
 use Rattle.loom_json.specs.declared.path.ReadStop.TheVariants.{WrongShape, NoMemory}
 
 infixl 10 ◌>>=◌
+-- the next reading, where the first gave a value
 abbrev pub ◌>>=◌ : {X Y Path : Type 0} → Result X Path → (X → Result Y Path) → Result Y Path
 Ok x >>= next = next x
 Err path >>= next = Err path

@@ -1,13 +1,13 @@
 //! Values that are read by forms: what a form gives, or the path of the first place that isn't of it.
-ghost use Rattle.std.specs.Prelude.{◌≡◌, ◌+◌, ◌^◌, ◌<◌, [], ℕ, List as Items, Result, map, length, decimal, option_map};
+ghost use Rattle.std.specs.Prelude.{◌≡◌, ◌+◌, ◌^◌, ◌<◌, ℕ, List as Items, Result, map, length, decimal, option_map};
 ghost use Rattle.loom_json.specs.Forms.{Gives, under, required as required_of, keyed as keyed_at, at_key as key_at, at_optional as optional_at, at_index as index_at, each as each_at, list as list_at, items_in, name_at, number_at, is_text as is_text_of, is_tagged as is_tagged_by};
-ghost use Rattle.serde_json.specs.Data.{Data};
-ghost use Rattle.serde_json.specs.View.{view};
-ghost use Rattle.loom_json.specs.declared.path.ReadStop.TheVariants as stops;
+ghost use Rattle.serde_json.specs.Data.{Data, number, string, array, unsigned};
+ghost use Rattle.serde_json.specs.View.{view, items_of};
 
 use crate::fields;
 use crate::path::{Path, ReadStop};
-use loom_base::{List, Name};
+use crate::shown::{self, Shown};
+use loom_base::{List, Name, NoMemory};
 use serde_json::Value;
 use std::alloc::Global;
 use std::marker::PhantomData;
@@ -187,6 +187,16 @@ impl<F: Form> Form for ListForm<F> {
     }
 }
 
+impl<S: Shown> Shown for ListForm<S> {
+    type Of = List<S::Of>;
+
+    ghost shows = { λ things. array (items_of (map S.shows things)) };
+
+    fn value(alloc: Global, things: &List<S::Of>) -> Result<Value, NoMemory> {
+        shown::array::<S>(alloc, things.as_slice())
+    }
+}
+
 /// A name.
 pub struct NameForm;
 
@@ -200,6 +210,16 @@ impl Form for NameForm {
     }
 }
 
+impl Shown for NameForm {
+    type Of = Name;
+
+    ghost shows = { string };
+
+    fn value(alloc: Global, name: &Name) -> Result<Value, NoMemory> {
+        shown::name(alloc, name)
+    }
+}
+
 /// A whole number from `LOW` to `HIGH`.
 pub struct NumberForm<const LOW: u64, const HIGH: u64>;
 
@@ -210,5 +230,15 @@ impl<const LOW: u64, const HIGH: u64> Form for NumberForm<LOW, HIGH> {
 
     fn read(alloc: Global, value: &Value) -> Result<u64, ReadStop> {
         required(alloc, fields::number(value, LOW, HIGH))
+    }
+}
+
+impl<const LOW: u64, const HIGH: u64> Shown for NumberForm<LOW, HIGH> {
+    type Of = u64;
+
+    ghost shows = { λ n. number (unsigned n) };
+
+    fn value(_alloc: Global, number: &u64) -> Result<Value, NoMemory> {
+        Ok(Value::from(*number))
     }
 }

@@ -1,5 +1,4 @@
-ghost use Rattle.std.specs.Prelude.{◌≡◌, [], ◌∷◌, ◌++◌, Result, IfOk, decimal};
-ghost use Rattle.std.specs.Prelude.{ℕ, List as Items};
+ghost use Rattle.std.specs.Prelude.{◌≡◌, [], ◌∷◌, ◌++◌, IfOk};
 
 use loom_base::NoMemory;
 use std::alloc::{AllocError, AllocFailed, Global};

@@ -1,4 +1,5 @@
-//! Values that are built to be printed.
+//! Values that are built to be printed. Other leaves are `Value::Null` and `Value::from` of a
+//! number or a truth value, an object is `Value::Object` of its members.
 ghost use Rattle.std.specs.Prelude.{◌≡◌, map, IfOk};
 ghost use Rattle.serde_json.specs.Data.{Data, string, array as array_of, put};
 ghost use Rattle.serde_json.specs.View.{view, items_of, members_view};

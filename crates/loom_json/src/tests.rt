@@ -44,7 +44,7 @@ impl Shown for TagForm {
         (put (codes "name") (string tag.name) no_members)) };
 
     fn value(alloc: Global, tag: &Tag) -> Result<Value, NoMemory> {
-        let name = shown::name(alloc, &tag.name)?;
+        let name = NameForm::value(alloc, &tag.name)?;
         let members = shown::with(alloc, Map::new(alloc), "name", name)?;
         let members = shown::with(alloc, members, "price", Value::from(tag.price))?;
         Ok(Value::Object(members))
@@ -96,7 +96,7 @@ fn what_is_read_is_shown(rt: HostRuntime) -> Result<(), Fail> {
         b"[{\"name\":\"x.1\",\"price\":2},{\"price\":9,\"name\":\"_\"}]",
     )?;
     let tags = forms::list::<TagForm>(alloc, &value)?;
-    assert!(rt; shown::array::<TagForm>(alloc, tags.as_slice())? == value);
+    assert!(rt; ListForm::<TagForm>::value(alloc, &tags)? == value);
     let lines = [
         b"{\"name\":\"x.1\",\"price\":2}\n".as_slice(),
         b"{\"name\":\"_\",\"price\":9}\n",

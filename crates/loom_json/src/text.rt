@@ -31,7 +31,7 @@ pub fn read_value(alloc: Global, bytes: &[u8]) -> Result<Value, JsonStop>
     }
 }
 
-/// The compact text of a value and a newline (`line_of`).
+/// The compact text of a value and a newline (`line_of`). No number of the value may be a float.
 pub fn line(alloc: Global, value: &Value) -> Result<List<u8>, NoMemory>
     requires { has_float (view value.now) ≡ false }
     ensures { IfOk result (λ text. text ≡ line_of (view value.now)) }
