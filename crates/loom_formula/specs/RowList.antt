@@ -16,11 +16,11 @@ abbrev pub next_of : Row → (ℕ → Bool) → ℕ
 next_of row choice = if choice row.option then row.high else row.low
 
 -- the value of a number that at most so many steps from row to row lead to: true at 1, false at 0 and past the list
-abbrev pub value_within : ℕ → List Row → (ℕ → Bool) → ℕ → Bool
+unfoldable pub value_within : ℕ → List Row → (ℕ → Bool) → ℕ → Bool
 value_within zero rows choice number = false
 value_within (suc steps) rows choice number =
     option_map_or (λ row. value_within steps rows choice (next_of row choice)) (row_at rows number) (number == 1)
 
 -- the value of a number: each step leads to a lower one, so as many steps as the number serve
-abbrev pub value_of : List Row → (ℕ → Bool) → ℕ → Bool
+unfoldable pub value_of : List Row → (ℕ → Bool) → ℕ → Bool
 value_of rows choice number = value_within (suc number) rows choice number

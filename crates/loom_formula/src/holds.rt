@@ -76,6 +76,13 @@ impl Members {
     }
 }
 
+/// The place of the first rule that is false under a choice.
+fn first_false(rules: &[Formula], options: &Options, choice: &Choice) -> Option<usize>
+    ensures { result ≡ position (λ rule. not (holds_of rule options.now (choice_at choice.now.values))) rules.now }
+{
+    rules.iter().position(|rule| !rule.holds(options, choice))
+}
+
 /// The position of the first rule that is false under a choice of the options; None exactly where all hold, so that
 /// the choice is valid.
 pub fn broken(rules: &[Formula], options: &Options, choice: &Choice) -> Option<u32>
@@ -83,6 +90,6 @@ pub fn broken(rules: &[Formula], options: &Options, choice: &Choice) -> Option<u
     ensures first { result ≡ position (λ rule. not (holds_of rule options.now (choice_at choice.now.values))) rules.now }
     ensures valid { IsNone result ↔ IsTrue (is_valid rules.now options.now (choice_at choice.now.values)) }
 {
-    let at = rules.iter().position(|rule| !rule.holds(options, choice))?;
+    let at = first_false(rules, options, choice)?;
     Some(at as u32)
 }

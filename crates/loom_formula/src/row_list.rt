@@ -1,4 +1,4 @@
-ghost use Rattle.std.specs.Prelude.{◌≡◌, ◌<◌, ◌≤◌, ◌+◌, ◌++◌, ◌∷◌, ◌↔◌, ◌⊎◌, [], length, option_map, IfSome, IsErrOf, OnOk, OnErr};
+ghost use Rattle.std.specs.Prelude.{◌≡◌, ◌<◌, ◌≤◌, ◌+◌, ◌++◌, ◌∷◌, ◌↔◌, ◌⊎◌, ◌==◌, [], length, option_map, IfSome, IfNone, IsErrOf, OnOk, OnErr};
 
 use crate::Choice;
 use loom_base::{List, NoMemory, OptionNo};
@@ -89,15 +89,25 @@ impl RowList {
     pub fn value(&self, number: u32, choice: &Choice) -> bool
         ensures { result ≡ value_of self.now (choice_at choice.now.values) number }
     {
-        let mut number = number;
-        while let Some((option, low, high)) = self.row(number) {
-            number = if choice.get(OptionNo(option)) {
-                high
-            } else {
-                low
-            };
+        let mut reached = number;
+        while let Some(next) = self.next(reached, choice) {
+            reached = next;
         }
-        number == 1
+        reached == 1
+    }
+
+    /// The number that the row of a number leads to under a choice.
+    fn next(&self, number: u32, choice: &Choice) -> Option<u32>
+        ensures lower { IfSome result (λ next. next < number) }
+        ensures same { IfSome result (λ next. value_of self.now (choice_at choice.now.values) next ≡ value_of self.now (choice_at choice.now.values) number) }
+        ensures end { IfNone result (value_of self.now (choice_at choice.now.values) number ≡ (number == 1)) }
+    {
+        let row = self.at(number)?;
+        Some(if choice.get(OptionNo(row.option)) {
+            row.high
+        } else {
+            row.low
+        })
     }
 
     /// The option, low and high of the row of a number; None exactly where the number is 0, 1 or past the list.
@@ -105,9 +115,18 @@ impl RowList {
         ensures row { result ≡ option_map (λ row. (row.option, row.low, row.high)) (row_at self.now number) }
         ensures below { IfSome result (λ row. (row.1 < number) × (row.2 < number)) }
     {
-        let at = number.checked_sub(2)?;
-        let row = self.rows.get(at as usize)?;
+        let row = self.at(number)?;
         Some((row.option, row.low, row.high))
+    }
+
+    /// The row of a number.
+    fn at(&self, number: u32) -> Option<Row>
+        ensures row { result ≡ row_at self.now number }
+        ensures below { AreBelow self.now }
+    {
+        let rows = &self.rows;
+        let at = number.checked_sub(2)?;
+        rows.get(at as usize).copied()
     }
 
     /// How many rows there are.
