@@ -1,6 +1,6 @@
 -- A choice grows by one named option at a time.
-use Rattle.std.proofs.Common.{◌≡◌, ℕ, zero, suc, ◌<◌, Bool, true, false, not, ◌||◌, List, [], ◌∷◌, ◌++◌, length, map, replicate, get_or, Option, Some, None, bytes_eq, refl, sym, ap, ◌∙◌, subst, if◌then◌else◌, arith}
-use Rattle.std.specs.List.{list_any, slice_get, slice_set, IsDistinct, AllByRecursion}
+use Rattle.std.proofs.Common.{◌≡◌, ℕ, zero, suc, Bool, true, false, ◌||◌, List, [], ◌∷◌, ◌++◌, length, replicate, Some, bytes_eq, refl, ap, ◌∙◌, subst}
+use Rattle.std.specs.List.{slice_get, slice_set, IsDistinct, AllByRecursion}
 use Rattle.std.specs.Option.{option_map}
 use Rattle.std.proofs.lemmas.List.Folds.{list_any-append}
 use Rattle.std.proofs.lemmas.Map.Keys.{IsDistinct-head, IsDistinct-tail}
@@ -9,14 +9,7 @@ use Rattle.std.proofs.lemmas.Slice.Eq.{bytes_eq-Decides}
 use Rattle.loom_formula.specs.declared.choice.ChoiceFault.TheVariants.{Unknown, Repeated}
 use Rattle.loom_formula.specs.NameIndex.{has_name}
 use Rattle.loom_formula.specs.Choice.{chosen, first_fault}
-
-bytes_eq-flip : (a b : List ℕ) → bytes_eq a b ≡ false → bytes_eq b a ≡ false
-bytes_eq-flip a b differ =
-    let Differ : Bool → Type 0 = λ v. bytes_eq b a ≡ v → bytes_eq b a ≡ false in
-    elim (bytes_eq b a) as Differ [
-      true ↦ λ same. absurd (cc (differ, (bytes_eq-Decides a b).1 (sym ((bytes_eq-Decides b a).0 same))))
-    | false ↦ λ same. same
-    ] refl
+use Rattle.loom_formula.proofs.NameLemmas.{bytes_eq-flip, differs-at}
 
 or-false : (b : Bool) → (b || false) ≡ b
 or-false b = elim b as (λ v. (v || false) ≡ v) [ true ↦ refl | false ↦ refl ]
@@ -39,13 +32,8 @@ chosen-elsewhere : (options names : List (List ℕ)) (name : List ℕ) → AllBy
 chosen-elsewhere [] names name differ = refl
 chosen-elsewhere (option ∷ options) names name differ =
     let here : has_name (names ++ name ∷ []) option ≡ has_name names option =
-        has_name-push names name option ∙ ap (λ b. has_name names option || b) (bytes_eq-flip name option differ.0) ∙ or-false (has_name names option) in
+    has_name-push names name option ∙ ap (λ b. has_name names option || b) (bytes_eq-flip name option differ.0) ∙ or-false (has_name names option) in
     rw (here, chosen-elsewhere options names name differ.1) refl
-
-distinct-at : (options : List (List ℕ)) (option name : List ℕ) (at : ℕ) → AllByRecursion (λ other. bytes_eq option other ≡ false) options → slice_get options at ≡ Some name → bytes_eq option name ≡ false
-distinct-at [] option name at differ found = absurd (cc (found))
-distinct-at (other ∷ options) option name zero differ found = subst (λ (n : List ℕ). bytes_eq option n ≡ false) (same_Some other name found) differ.0
-distinct-at (other ∷ options) option name (suc at) differ found = distinct-at options option name at differ.1 found
 
 -- one more name makes its option true
 pub chosen-push : (options names : List (List ℕ)) (name : List ℕ) (at : ℕ) → IsDistinct bytes_eq options → slice_get options at ≡ Some name → chosen options (names ++ name ∷ []) ≡ slice_set (chosen options names) at true
@@ -53,14 +41,14 @@ chosen-push [] names name at distinct found = absurd (cc (found))
 chosen-push (option ∷ options) names name zero distinct found =
     let same : option ≡ name = same_Some option name found in
     let here : has_name (names ++ name ∷ []) option ≡ true =
-        has_name-push names name option ∙ ap (λ b. has_name names option || b) ((bytes_eq-Decides option name).1 same) ∙ or-true (has_name names option) in
+    has_name-push names name option ∙ ap (λ b. has_name names option || b) ((bytes_eq-Decides option name).1 same) ∙ or-true (has_name names option) in
     let Differ : List ℕ → Type 0 = λ n. AllByRecursion (λ other. bytes_eq n other ≡ false) options in
     let elsewhere = chosen-elsewhere options names name (subst Differ same (IsDistinct-head bytes_eq option options distinct)) in
     rw (here, elsewhere) refl
 chosen-push (option ∷ options) names name (suc at) distinct found =
-    let differ = distinct-at options option name at (IsDistinct-head bytes_eq option options distinct) found in
+    let differ = differs-at options option name at (IsDistinct-head bytes_eq option options distinct) found in
     let here : has_name (names ++ name ∷ []) option ≡ has_name names option =
-        has_name-push names name option ∙ ap (λ b. has_name names option || b) differ ∙ or-false (has_name names option) in
+    has_name-push names name option ∙ ap (λ b. has_name names option || b) differ ∙ or-false (has_name names option) in
     rw (here, chosen-push options names name at (IsDistinct-tail bytes_eq option options distinct) found) refl
 
 -- the value of a chosen option

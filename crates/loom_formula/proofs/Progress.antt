@@ -1,5 +1,5 @@
 -- The names that were taken so far.
-use Rattle.std.proofs.Common.{◌≡◌, ℕ, ◌+◌, ◌<◌, Bool, true, false, List, [], ◌∷◌, ◌++◌, length, take, drop, get_or, Option, Some, Ok, Err, bytes_eq, sym, ap, ◌∙◌, is_some}
+use Rattle.std.proofs.Common.{◌≡◌, ℕ, ◌+◌, ◌<◌, Bool, true, false, List, [], ◌∷◌, ◌++◌, length, take, drop, get_or, Option, Some, Ok, Err, bytes_eq, sym, ap, ◌∙◌}
 use Rattle.std.specs.List.{IsDistinct, slice_get, slice_set}
 use Rattle.std.specs.Option.{option_map_or}
 use Rattle.std.proofs.lemmas.List.{take_more, drop_more}
@@ -29,13 +29,13 @@ module _ (options names : List (List ℕ)) (count : ℕ) (values : List Bool) (n
   came_before : (value : Bool) → get_or values at false ≡ value → has_name (take count names) name ≡ value
   came_before value read =
       sym (get_or_from_slice_get values at (has_name (take count names) name) false
-          (ap (λ vs. slice_get vs at) taken.made ∙ chosen-at options (take count names) name at stored)) ∙ read
+      (ap (λ vs. slice_get vs at) taken.made ∙ chosen-at options (take count names) name at stored)) ∙ read
 
   pub refused_as_repeated : get_or values at false ≡ true → choice_of options names ≡ Err (Repeated name)
   refused_as_repeated read =
       let fault : first_fault options [] names ≡ Some (Repeated name) =
-          sym taken.same_fault ∙ ap (first_fault options (take count names)) left
-          ∙ first_fault-repeated options (take count names) name (drop (count + 1) names) known (came_before true read) in
+      sym taken.same_fault ∙ ap (first_fault options (take count names)) left
+      ∙ first_fault-repeated options (take count names) name (drop (count + 1) names) known (came_before true read) in
       ap (λ (f : Option ChoiceFault). option_map_or Err f (Ok (chosen options names))) fault
 
   pub taken_more : get_or values at false ≡ false → HasTaken options names (count + 1) (slice_set values at true)

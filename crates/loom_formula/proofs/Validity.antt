@@ -1,5 +1,5 @@
 -- The first rule that is false.
-use Rattle.std.proofs.Common.{◌≡◌, ℕ, suc, ◌+◌, Bool, true, false, not, ◌&&◌, List, [], ◌∷◌, length, nat_lt, IsNone, IsTrue, ◌↔◌, Some, None, cond, refl, sym, ap, ◌∙◌, arith}
+use Rattle.std.proofs.Common.{◌≡◌, ℕ, suc, ◌+◌, Bool, true, false, not, ◌&&◌, List, [], ◌∷◌, length, nat_lt, IsNone, IsTrue, ◌↔◌, Some, None, cond, refl, ◌∙◌, arith}
 use Rattle.std.specs.List.{list_all, position, prefix_len}
 use Rattle.std.specs.Option.{is_some}
 use Rattle.std.proofs.lemmas.Bool.Decides.{nat_tests}
@@ -28,5 +28,5 @@ prefix_len-all p (x ∷ xs) =
 pub position-none : {X : Type 0} (p : X → Bool) (xs : List X) → IsNone (position (λ x. not (p x)) xs) ↔ IsTrue (list_all p xs)
 position-none p xs =
     let none : is_some (position (λ x. not (p x)) xs) ≡ not (list_all p xs) =
-        is_some-cond _ (prefix_len (λ x. not (not (p x))) xs) ∙ prefix_len-all p xs in
+    is_some-cond _ (prefix_len (λ x. not (not (p x))) xs) ∙ prefix_len-all p xs in
     both_ways _ (list_all p xs) none

@@ -1,5 +1,5 @@
 -- Walks from row to row.
-use Rattle.std.proofs.Common.{◌≡◌, ℕ, zero, suc, ◌+◌, ◌-◌, ◌<◌, ◌≤◌, ◌==◌, Bool, true, false, if◌then◌else◌, List, ◌++◌, length, Option, None, Some, refl, sym, ap, ◌∙◌, arith}
+use Rattle.std.proofs.Common.{◌≡◌, ℕ, zero, suc, ◌+◌, ◌-◌, ◌<◌, ◌==◌, Bool, true, false, if◌then◌else◌, List, [], ◌∷◌, ◌++◌, length, Option, None, Some, cond, nat_lt, refl, ap, ◌∙◌, arith}
 use Rattle.std.specs.List.{slice_get}
 use Rattle.std.specs.Option.{option_map_or}
 use Rattle.std.proofs.lemmas.Bool.Decides.{nat_tests}
@@ -29,11 +29,11 @@ value_within-more rows choice below (suc steps) zero number few fits = absurd (o
 value_within-more rows choice below (suc steps) (suc more) number few fits =
     let Same : Option Row → Type 0 = λ r. row_at rows number ≡ r → option_map_or (λ row. value_within steps rows choice (next_of row choice)) r (number == 1) ≡ option_map_or (λ row. value_within more rows choice (next_of row choice)) r (number == 1) in
     let at_row : (r : Option Row) → Same r = λ r. elim r as Same [
-        None ↦ λ _. refl
+      | None ↦ λ _. refl
       | Some row ↦ λ here.
           let lower : next_of row choice < number = next-below rows choice number row below here in
           value_within-more rows choice below steps more (next_of row choice) (omega arith) (omega arith)
-      ] in
+    ] in
     at_row (row_at rows number) refl
 
 -- a number with a row has the value of the number that the row leads to
@@ -58,3 +58,40 @@ value_of-high rows choice number row below here is_true =
 pub value_of-low : (rows : List Row) (choice : ℕ → Bool) (number : ℕ) (row : Row) → AreBelow rows → row_at rows number ≡ Some row → choice row.option ≡ false → value_of rows choice number ≡ value_of rows choice row.low
 value_of-low rows choice number row below here is_false =
     value_of-row rows choice number row below here ∙ ap (λ b. value_of rows choice (if b then row.high else row.low)) is_false
+
+slice_get-append : {X : Type 0} (xs ys : List X) (k : ℕ) → k < length xs → slice_get (xs ++ ys) k ≡ slice_get xs k
+slice_get-append [] ys k within = absurd (omega arith)
+slice_get-append (x ∷ xs) ys zero within = refl
+slice_get-append (x ∷ xs) ys (suc k) within = slice_get-append xs ys k (omega arith)
+
+-- later rows leave the earlier ones as they are
+pub row_at-append : (rows more : List Row) (number : ℕ) → number < length rows + 2 → row_at (rows ++ more) number ≡ row_at rows number
+row_at-append rows more number within =
+    let Same : Bool → Type 0 = λ b. nat_lt number 2 ≡ b → cond b None (slice_get (rows ++ more) (number - 2)) ≡ cond b None (slice_get rows (number - 2)) in
+    let at_test : (b : Bool) → Same b = λ b. elim b as Same [
+      | true ↦ λ _. refl
+      | false ↦ λ from_2.
+          let inside : number - 2 < length rows = grind (arith, nat_tests) in
+          slice_get-append rows more (number - 2) inside
+    ] in
+    at_test (nat_lt number 2) refl
+
+value_within-append : (rows more : List Row) (choice : ℕ → Bool) → AreBelow (rows ++ more) → (steps number : ℕ) → number < length rows + 2 → value_within steps (rows ++ more) choice number ≡ value_within steps rows choice number
+unfolding value_within
+value_within-append rows more choice below zero number within = refl
+value_within-append rows more choice below (suc steps) number within =
+    let longer = rows ++ more in
+    let Same : Option Row → Type 0 = λ r. row_at longer number ≡ r → option_map_or (λ row. value_within steps longer choice (next_of row choice)) r (number == 1) ≡ option_map_or (λ row. value_within steps rows choice (next_of row choice)) r (number == 1) in
+    let at_row : (r : Option Row) → Same r = λ r. elim r as Same [
+      | None ↦ λ _. refl
+      | Some row ↦ λ here.
+          let lower : next_of row choice < number = next-below longer choice number row below here in
+          value_within-append rows more choice below steps (next_of row choice) (omega arith)
+    ] in
+    at_row (row_at longer number) refl
+    ∙ ap (λ r. option_map_or (λ row. value_within steps rows choice (next_of row choice)) r (number == 1)) (row_at-append rows more number within)
+
+-- and their values
+pub value_of-append : (rows more : List Row) (choice : ℕ → Bool) (number : ℕ) → AreBelow (rows ++ more) → number < length rows + 2 → value_of (rows ++ more) choice number ≡ value_of rows choice number
+unfolding value_of
+value_of-append rows more choice number below within = value_within-append rows more choice below (suc number) number within

@@ -1,4 +1,4 @@
-use Rattle.std.specs.Prelude.{◌≡◌, ℕ, zero, suc, ◌-◌, ◌<◌, ◌==◌, Bool, false, List, Option, Some, None, if◌then◌else◌, slice_get, length, nat_lt}
+use Rattle.std.specs.Prelude.{◌≡◌, ℕ, zero, suc, ◌-◌, ◌<◌, ◌==◌, Bool, false, List, Option, Some, None, if◌then◌else◌, slice_get, nat_lt}
 use Rattle.std.specs.Option.{option_map_or}
 use Rattle.loom_formula.specs.declared.row_list.Row.{Row}
 

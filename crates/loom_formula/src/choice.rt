@@ -1,10 +1,10 @@
-ghost use Rattle.std.specs.Prelude.{◌≡◌, ◌<◌, IfOk, length, replicate, false};
+ghost use Rattle.std.specs.Prelude.{◌≡◌};
 ghost use Rattle.loom_formula.specs.declared.choice.ChoiceFault.TheVariants.{NoMemory as OutOfMemory};
 ghost use Rattle.loom_formula.specs.Choice.{choice_at, choice_of, GivesChoice};
 
 use crate::Options;
-use loom_base::{List, Name, NoMemory, OptionNo};
-use std::alloc::Global;
+use loom_base::{List, Name, OptionNo};
+use std::alloc::{AllocError, Global};
 
 /// A choice of the options: the truth of each by its position. What is past the list's end is false.
 #[derive(Debug, Drop)]
@@ -23,23 +23,12 @@ pub enum ChoiceFault {
     NoMemory,
 }
 
-impl From<NoMemory> for ChoiceFault {
+impl From<AllocError> for ChoiceFault {
     ghost from_gives = { λ _ fault. fault ≡ OutOfMemory };
 
-    fn from(_error: NoMemory) -> ChoiceFault {
+    fn from(_error: AllocError) -> ChoiceFault {
         ChoiceFault::NoMemory
     }
-}
-
-/// A list of so many options, all false.
-fn all_false(alloc: Global, count: u32) -> Result<List<bool>, NoMemory>
-    ensures { IfOk result (λ values. values ≡ replicate count false) }
-{
-    let mut values = List::new(alloc);
-    for _ in 0..count {
-        values.push(false)?;
-    }
-    Ok(values)
 }
 
 impl Choice {
@@ -58,7 +47,7 @@ impl Choice {
     pub fn of(alloc: Global, options: &Options, names: &[Name]) -> Result<Choice, ChoiceFault>
         ensures { GivesChoice result (choice_of options.now names.now) }
     {
-        let mut values = all_false(alloc, options.count())?;
+        let mut values = List::from_vec(vec![in alloc; false; options.count() as usize]?);
         for name in names {
             let Some(option) = options.position(*name) else {
                 return Err(ChoiceFault::Unknown(*name));

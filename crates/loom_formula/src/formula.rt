@@ -8,7 +8,7 @@ use std::alloc::Global;
 
 /// What has to hold of the options: a rule, or when a net needs a cavity.
 #[cycle(formula)]
-#[derive(Drop)]
+#[derive(Debug, Drop)]
 pub enum Formula {
     /// It holds under every choice.
     Always,
@@ -28,7 +28,7 @@ pub enum Formula {
 
 /// The members of a formula, in order.
 #[cycle(formula)]
-#[derive(Drop)]
+#[derive(Debug, Drop)]
 pub struct Members {
     list: List<Formula>,
 }

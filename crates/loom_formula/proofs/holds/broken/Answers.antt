@@ -1,4 +1,4 @@
-use Rattle.std.proofs.Common.{◌≡◌, sym, subst, IsNone, IsTrue, ◌↔◌, Option, ℕ}
+use Rattle.std.proofs.Common.{sym, subst, IsNone, IsTrue, ◌↔◌, Option, ℕ}
 use Rattle.loom_formula.specs.Choice.{choice_at, is_valid}
 use Rattle.loom_formula.specs.Formula.{holds_of}
 use Rattle.loom_formula.proofs.Validity.{position-none}

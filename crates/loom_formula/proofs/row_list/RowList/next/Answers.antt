@@ -1,4 +1,4 @@
-use Rattle.std.proofs.Common.{sym, ◌∙◌}
+use Rattle.std.proofs.Common.{sym}
 use Rattle.loom_formula.specs.Choice.{choice_at}
 use Rattle.loom_formula.proofs.Walks.{value_of-high, value_of-low, value_of-end}
 use Rattle.loom_formula.proofs.row_list.RowList.next.Goals as goal
