@@ -1,0 +1,4 @@
+pub mod Choice
+pub mod Formula
+pub mod NameIndex
+pub mod RowList
