@@ -1,1 +1,5 @@
 pub mod Topology
+pub mod WiringTree
+pub mod TreeCost
+pub mod Least
+pub mod Legal

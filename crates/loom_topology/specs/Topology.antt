@@ -1,4 +1,4 @@
-use Rattle.std.specs.Prelude.{ℕ, List, Bool, true, false, ◌≡◌, ◌⊎◌, ◌==◌, ◌<◌, IsTrue, length, slice_index, slice_index_or, if◌then◌else◌}
+use Rattle.std.specs.Prelude.{ℕ, List, Bool, true, false, ◌≡◌, ◌⊎◌, ◌==◌, ◌<◌, ◌≤◌, IsTrue, length, slice_index, slice_index_or, if◌then◌else◌}
 use Rattle.loom_topology.specs.declared.kind.Kind.{Kind}
 use Rattle.loom_topology.specs.declared.kind.Kind.TheVariants.{Run, Coupler}
 
@@ -57,3 +57,10 @@ abbrev pub Leads : TopologyView → ℕ → ℕ → ℕ → Type 0
 Leads topology s v u =
     let g = segment_at topology s in
     IsTrue g.is_open × (((g.from ≡ v) × (g.to ≡ u)) ⊎ ((g.from ≡ u) × (g.to ≡ v)))
+
+-- segments end at nodes of the topology and cost at least 1, and cavities lie at such nodes
+pub record IsSound (topology : TopologyView) : Type 0 where
+  pub from : (s : ℕ) → s < length topology.segments → (segment_at topology s).from < length topology.nodes
+  pub to : (s : ℕ) → s < length topology.segments → (segment_at topology s).to < length topology.nodes
+  pub price : (s : ℕ) → s < length topology.segments → 1 ≤ price_at topology s
+  pub cavity : (c : ℕ) → c < length topology.cavities → node_of topology c < length topology.nodes

@@ -1,0 +1,10 @@
+use Rattle.std.specs.Prelude.{ℕ, List, Option, ◌≤◌, MatchOption}
+use Rattle.loom_topology.specs.Topology.{TopologyView}
+use Rattle.loom_topology.specs.WiringTree.{Tree, IsWiringTree}
+use Rattle.loom_topology.specs.TreeCost.{cost_of, HasTree}
+
+-- the least cost of a wiring tree for the cavities from node v: some tree costs it and none costs less; None where there is no tree
+abbrev pub IsLeast : TopologyView → List ℕ → ℕ → Option ℕ → Type 0
+IsLeast topology cavities v answer =
+    MatchOption answer ((tree : Tree) → IsWiringTree topology cavities v tree → ⊥)
+      (λ m. HasTree topology cavities v m × ((tree : Tree) → IsWiringTree topology cavities v tree → m ≤ cost_of topology v tree))
