@@ -1,4 +1,4 @@
-use Rattle.std.specs.Prelude.{ℕ, List, Bool, true, false, ◌≡◌, ◌⊎◌, ◌==◌, ◌<◌, ◌≤◌, IsTrue, length, slice_index, slice_index_or, if◌then◌else◌}
+use Rattle.std.specs.Prelude.{ℕ, List, Bool, true, false, ◌≡◌, ◌⊎◌, ◌<◌, ◌≤◌, IsTrue, length, slice_index, slice_index_or}
 use Rattle.loom_topology.specs.declared.kind.Kind.{Kind}
 use Rattle.loom_topology.specs.declared.kind.Kind.TheVariants.{Run, Coupler}
 
