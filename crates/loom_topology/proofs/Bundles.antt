@@ -11,9 +11,9 @@ pub add-apart : (a b c : ℕ) → bit_and a b ≡ 0 → bit_and a c ≡ 0 → bi
 add-apart a b c ab ac bc =
     let union : bit_or a b ≡ a + b = or_disjoint a b ab in
     rw (← union) (same_from_bits (bit_and (bit_or a b) c) 0 (λ i.
-      let x : bit_at (bit_and a c) i ≡ 0 = rw ac (bit_at-zero i) in
-      let y : bit_at (bit_and b c) i ≡ 0 = rw bc (bit_at-zero i) in
-      omega (arith, bit_at_and a c i, bit_at_and b c i, bit_at_and (bit_or a b) c i, bit_at_or a b i, bit_at-zero i, x, y)))
+    let x : bit_at (bit_and a c) i ≡ 0 = rw ac (bit_at-zero i) in
+    let y : bit_at (bit_and b c) i ≡ 0 = rw bc (bit_at-zero i) in
+    omega (arith, bit_at_and a c i, bit_at_and b c i, bit_at_and (bit_or a b) c i, bit_at_or a b i, bit_at-zero i, x, y)))
 
 -- f, with x at q
 abbrev pub put : (ℕ → ℕ) → ℕ → ℕ → ℕ → ℕ
@@ -33,7 +33,7 @@ pub record Bundled (Q : ℕ → ℕ → ℕ → Type 0) (n : ℕ) (M B : ℕ →
 -- two bundles at one point become one
 pub record Merges (total n : ℕ) (w : ℕ → ℕ) (Q : ℕ → ℕ → ℕ → Type 0) : Type 0 where
   pub merge : (p a b r s : ℕ) → p ≤ n → 0 < a → 0 < b → bit_and a b ≡ 0 → a + b ≤ total
-    → Q p a r → Q p b s → Q p (a + b) (r + s + w p)
+      → Q p a r → Q p b s → Q p (a + b) (r + s + w p)
   pub weaken : (p m r s : ℕ) → r ≤ s → Q p m r → Q p m s
 
 -- what a point with c further things is worth: its bound, and its branch cost for each thing past the first
@@ -89,53 +89,53 @@ module _ (Q : ℕ → ℕ → ℕ → Type 0) (total n : ℕ) (w c d M B : ℕ �
   known_after : (p : ℕ) → p ≤ n → 0 < masks_after p → Q p (masks_after p) (bounds_after p)
   known_after p below some_p =
       elim (cases_eq p q) [
-        inl e ↦
-          let part : M q ≤ sum_through M n = part-le-sum_through n q M within in
-          let at_q : Q q (M q + m) (grown (M q) (B q) r (w q)) =
-              joined (Q q) (M q) (B q) m r (w q) some
-                (λ s some_a known. merges.merge q (M q) m s r within some_a some (and_comm (M q) m ∙ aside q within) (omega arith) known new)
-                (old.known q within) new in
-          rw (e, put-same M q (M q + m), put-same B q (grown (M q) (B q) r (w q))) at_q
-      | inr other ↦
-          let some_old : 0 < M p = rw (put-other M q (M q + m) p other) at some_p in
-          rw (put-other M q (M q + m) p other, put-other B q (grown (M q) (B q) r (w q)) p other) (old.known p below some_old)
+        | inl e ↦
+            let part : M q ≤ sum_through M n = part-le-sum_through n q M within in
+            let at_q : Q q (M q + m) (grown (M q) (B q) r (w q)) =
+            joined (Q q) (M q) (B q) m r (w q) some
+            (λ s some_a known. merges.merge q (M q) m s r within some_a some (and_comm (M q) m ∙ aside q within) (omega arith) known new)
+            (old.known q within) new in
+            rw (e, put-same M q (M q + m), put-same B q (grown (M q) (B q) r (w q))) at_q
+        | inr other ↦
+            let some_old : 0 < M p = rw (put-other M q (M q + m) p other) at some_p in
+            rw (put-other M q (M q + m) p other, put-other B q (grown (M q) (B q) r (w q)) p other) (old.known p below some_old)
       ]
 
   apart_after : (p k : ℕ) → p ≤ n → k ≤ n → p ≢ k → bit_and (masks_after p) (masks_after k) ≡ 0
   apart_after p k p_below k_below different =
       elim (cases_eq p q) [
-        inl e ↦
-          let other : k ≢ q = λ f. different (e ∙ sym f) in
-          rw (put-other M q (M q + m) k other, e, put-same M q (M q + m))
+        | inl e ↦
+            let other : k ≢ q = λ f. different (e ∙ sym f) in
+            rw (put-other M q (M q + m) k other, e, put-same M q (M q + m))
             (add-apart (M q) m (M k) (and_comm (M q) m ∙ aside q within) (old.apart q k within k_below (λ f. other (sym f))) (aside k k_below))
-      | inr other ↦ elim (cases_eq k q) [
-          inl f ↦
-            rw (put-other M q (M q + m) p other, f, put-same M q (M q + m), and_comm (M p) (M q + m))
+        | inr other ↦ elim (cases_eq k q) [
+          | inl f ↦
+              rw (put-other M q (M q + m) p other, f, put-same M q (M q + m), and_comm (M p) (M q + m))
               (add-apart (M q) m (M p) (and_comm (M q) m ∙ aside q within) (old.apart q p within p_below (λ g. other (sym g))) (aside p p_below))
-        | inr another ↦
-            rw (put-other M q (M q + m) p other, put-other M q (M q + m) k another) (old.apart p k p_below k_below different)
+          | inr another ↦
+              rw (put-other M q (M q + m) p other, put-other M q (M q + m) k another) (old.apart p k p_below k_below different)
         ]
       ]
 
   pub absorb : Absorbed Q n w c d M B m r
   absorb =
       let sums : sum_through masks_after n + M q ≡ sum_through M n + masks_after q =
-          sum_through-put n q masks_after M within (λ p below other. put-other M q (M q + m) p other) in
+      sum_through-put n q masks_after M within (λ p below other. put-other M q (M q + m) p other) in
       let at_q : masks_after q ≡ M q + m = put-same M q (M q + m) in
       let bound_q : bounds_after q ≡ grown (M q) (B q) r (w q) = put-same B q (grown (M q) (B q) r (w q)) in
       let here : worth w d masks_after bounds_after q ≤ worth w c M B q + r =
-          rw (at_q, bound_q) (grown_worth (B q) (w q) (c q) (d q) (M q) m r fewer some) in
+      rw (at_q, bound_q) (grown_worth (B q) (w q) (c q) (d q) (M q) m r fewer some) in
       let worths : sum_through (worth w d masks_after bounds_after) n + worth w c M B q
-          ≤ sum_through (worth w c M B) n + worth w d masks_after bounds_after q =
-          sum_through-put_le n q (worth w d masks_after bounds_after) (worth w c M B) within (λ p below other.
-            let x : masks_after p ≡ M p = put-other M q (M q + m) p other in
-            let y : bounds_after p ≡ B p = put-other B q (grown (M q) (B q) r (w q)) p other in
-            let less : d p + min (M p) 1 - 1 ≤ c p + min (M p) 1 - 1 = omega (arith, others p below other) in
-            rw (x, y) (omega (arith, mul-le-mul_left (w p) less))) in
+      ≤ sum_through (worth w c M B) n + worth w d masks_after bounds_after q =
+      sum_through-put_le n q (worth w d masks_after bounds_after) (worth w c M B) within (λ p below other.
+      let x : masks_after p ≡ M p = put-other M q (M q + m) p other in
+      let y : bounds_after p ≡ B p = put-other B q (grown (M q) (B q) r (w q)) p other in
+      let less : d p + min (M p) 1 - 1 ≤ c p + min (M p) 1 - 1 = omega (arith, others p below other) in
+      rw (x, y) (omega (arith, mul-le-mul_left (w p) less))) in
       record {
         masks = masks_after;
         bounds = bounds_after;
         bundled = record { known = known_after; apart = apart_after };
         union = omega arith;
-        cheap = omega arith
+        cheap = omega arith;
       }

@@ -79,8 +79,8 @@ module _ (Q : ℕ → ℕ → ℕ → Type 0) (total n : ℕ) (w base : ℕ → 
       → Absorbed Q n w (λ p. base p + hung_at (h ∷ rest) p) (λ p. base p + hung_at rest p) M B (2 ^ i) 0
   arrives i h rest M B below known low fits bundles =
       absorb Q total n w (λ p. base p + hung_at (h ∷ rest) p) (λ p. base p + hung_at rest p) M B h (2 ^ i) 0 merges bundles
-        below (pow_pos i) known (λ p p_below. aside i p M low p_below) fits
-        (omega (arith, hung_at-same h rest)) (λ p p_below other. omega (arith, hung_at-other h rest p other))
+      below (pow_pos i) known (λ p p_below. aside i p M low p_below) fits
+      (omega (arith, hung_at-same h rest)) (λ p p_below other. omega (arith, hung_at-other h rest p other))
 
   -- then the others
   goes_on : (i h more gained : ℕ) (rest : List ℕ) (M B : ℕ → ℕ)
@@ -91,7 +91,7 @@ module _ (Q : ℕ → ℕ → ℕ → Type 0) (total n : ℕ) (w base : ℕ → 
     bounds = others.bounds;
     bundled = others.bundled;
     union = omega (arith, others.union, one.union);
-    cheap = omega (arith, others.cheap, one.cheap)
+    cheap = omega (arith, others.cheap, one.cheap);
   }
 
   pub hang : (cs : List ℕ) (mask i : ℕ) (hs : List ℕ) (M B : ℕ → ℕ) → Leaves cs i → AllZip R (chosen cs mask) hs
@@ -104,30 +104,30 @@ module _ (Q : ℕ → ℕ → ℕ → Type 0) (total n : ℕ) (w base : ℕ → 
         bounds = B;
         bundled = bundles;
         union = rw none (omega arith);
-        cheap = sum_through-le n (worth w base M B) (worth w (λ p. base p + 0) M B) (λ p below. rw add-zero (omega arith))
+        cheap = sum_through-le n (worth w base M B) (worth w (λ p. base p + 0) M B) (λ p below. rw add-zero (omega arith));
       }
   hang [] mask i (h ∷ hs) M B leaves zip range low fits bundles = absurd zip
   hang (c ∷ cs) mask i hs M B leaves zip range low fits bundles =
       let rest_range : mask / 2 < 2 ^ length cs = omega (arith, pow_length c cs) in
       let parts : (mask / 2) * 2 ^ suc i + (mask % 2) * 2 ^ i ≡ mask * 2 ^ i = shifted mask i in
       elim (cases_eq (mask % 2) 1) [
-        inr even ↦
-          let none : mask % 2 ≡ 0 = omega arith in
-          let more : (mask / 2) * 2 ^ suc i ≡ mask * 2 ^ i = omega (arith, rw none at parts) in
-          let kept : AllZip R (chosen cs (mask / 2)) hs = subst (λ l. AllZip R l hs) (chosen-none c cs mask none) zip in
-          subst (λ gained. Hung Q n w base M B gained hs) more
+        | inr even ↦
+            let none : mask % 2 ≡ 0 = omega arith in
+            let more : (mask / 2) * 2 ^ suc i ≡ mask * 2 ^ i = omega (arith, rw none at parts) in
+            let kept : AllZip R (chosen cs (mask / 2)) hs = subst (λ l. AllZip R l hs) (chosen-none c cs mask none) zip in
+            subst (λ gained. Hung Q n w base M B gained hs) more
             (hang cs (mask / 2) (suc i) hs M B (Leaves-tail c cs i leaves) kept rest_range (omega arith) (omega arith) bundles)
-      | inl odd ↦
-          let more : (mask / 2) * 2 ^ suc i + 2 ^ i ≡ mask * 2 ^ i = omega (arith, rw odd at parts) in
-          let kept : AllZip R (c ∷ chosen cs (mask / 2)) hs = subst (λ l. AllZip R l hs) (chosen-one c cs mask odd) zip in
-          let (h, rest, e, r, zip_rest) = zip_cons R c (chosen cs (mask / 2)) hs kept in
-          let leaf : (h ≤ n) × Q h (2 ^ (i + 0)) 0 = leaves 0 h (omega arith) r in
-          let known : Q h (2 ^ i) 0 = subst (λ k. Q h (2 ^ k) 0) (add-zero i) leaf.1 in
-          let one : Absorbed Q n w (λ p. base p + hung_at (h ∷ rest) p) (λ p. base p + hung_at rest p) M B (2 ^ i) 0 =
-              arrives i h rest M B leaf.0 known low (omega arith) bundles in
-          let others : Hung Q n w base one.masks one.bounds ((mask / 2) * 2 ^ suc i) rest =
-              hang cs (mask / 2) (suc i) rest one.masks one.bounds (Leaves-tail c cs i leaves) zip_rest rest_range
-                (omega (arith, one.union)) (omega (arith, one.union)) one.bundled in
-          subst (λ l. Hung Q n w base M B (mask * 2 ^ i) l) (sym e)
+        | inl odd ↦
+            let more : (mask / 2) * 2 ^ suc i + 2 ^ i ≡ mask * 2 ^ i = omega (arith, rw odd at parts) in
+            let kept : AllZip R (c ∷ chosen cs (mask / 2)) hs = subst (λ l. AllZip R l hs) (chosen-one c cs mask odd) zip in
+            let (h, rest, e, r, zip_rest) = zip_cons R c (chosen cs (mask / 2)) hs kept in
+            let leaf : (h ≤ n) × Q h (2 ^ (i + 0)) 0 = leaves 0 h (omega arith) r in
+            let known : Q h (2 ^ i) 0 = subst (λ k. Q h (2 ^ k) 0) (add-zero i) leaf.1 in
+            let one : Absorbed Q n w (λ p. base p + hung_at (h ∷ rest) p) (λ p. base p + hung_at rest p) M B (2 ^ i) 0 =
+            arrives i h rest M B leaf.0 known low (omega arith) bundles in
+            let others : Hung Q n w base one.masks one.bounds ((mask / 2) * 2 ^ suc i) rest =
+            hang cs (mask / 2) (suc i) rest one.masks one.bounds (Leaves-tail c cs i leaves) zip_rest rest_range
+            (omega (arith, one.union)) (omega (arith, one.union)) one.bundled in
+            subst (λ l. Hung Q n w base M B (mask * 2 ^ i) l) (sym e)
             (goes_on i h ((mask / 2) * 2 ^ suc i) (mask * 2 ^ i) rest M B one others more)
       ]

@@ -4,3 +4,10 @@ pub mod Climb
 pub mod Hangs
 pub mod Places
 pub mod LowerBound
+pub mod Drawn
+pub mod Over
+pub mod Masks
+pub mod Both
+pub mod Composition
+pub mod FirstCavity
+pub mod LeastCost
