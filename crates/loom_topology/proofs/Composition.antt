@@ -5,26 +5,24 @@ use Rattle.loom_topology.specs.WiringTree.{place_of}
 use Rattle.loom_topology.specs.TreeCost.{HasTree}
 use Rattle.loom_topology.specs.Legal.{IsMask, cavities_of}
 use Rattle.loom_topology.proofs.Drawn.{Drawn, drawn_tree, cost_at_places, has_drawn}
-use Rattle.loom_topology.proofs.Masks.{Interleaved, interleave, chosen-some, cavities_of-pow}
+use Rattle.loom_topology.proofs.Masks.{Interleaved, interleave, chosen-some, power_is_one_cavity}
 use Rattle.loom_topology.proofs.Both.{lift, Lies, hangs_a, hangs_b, joined, at_both, drawn_both, cost_both}
 use Rattle.loom_topology.proofs.Over.{HasTree-one}
-pub use Rattle.loom_topology.proofs.Over.{HasTree-one, HasTree-over}
-pub use Rattle.loom_topology.proofs.Masks.{cavities_of-pow}
 
 -- the cavity of a mask of one terminal, at its own node, costs nothing
-pub HasTree-leaf : (topology : TopologyView) (terminals : List ℕ) (i : ℕ) → i + 1 < length terminals
+pub one_cavity_is_free : (topology : TopologyView) (terminals : List ℕ) (i : ℕ) → i + 1 < length terminals
     → HasTree topology (cavities_of terminals (2 ^ i)) (node_of topology (slice_index terminals (i + 1))) 0
-HasTree-leaf topology terminals i h =
+one_cavity_is_free topology terminals i h =
     subst (λ cavities. HasTree topology cavities (node_of topology (slice_index terminals (i + 1))) 0)
-    (sym (cavities_of-pow terminals i h))
+    (sym (power_is_one_cavity terminals i h))
     (HasTree-one topology (slice_index terminals (i + 1)) (node_of topology (slice_index terminals (i + 1))) refl)
 
 -- two trees for disjoint masks that aren't empty, joined at point 0
-pub HasTree-both : (topology : TopologyView) (terminals : List ℕ) (a b v m n : ℕ)
+pub trees_join : (topology : TopologyView) (terminals : List ℕ) (a b v m n : ℕ)
     → 0 < a → 0 < b → bit_and a b ≡ 0 → IsMask terminals (a + b)
     → HasTree topology (cavities_of terminals a) v m → HasTree topology (cavities_of terminals b) v n
     → HasTree topology (cavities_of terminals (a + b)) v (m + n + branch_at topology v)
-HasTree-both topology terminals a b v m n some_a some_b apart range (one, is_one, cost_one) (two, is_two, cost_two) =
+trees_join topology terminals a b v m n some_a some_b apart range (one, is_one, cost_one) (two, is_two, cost_two) =
     let at_a : ℕ → ℕ = place_of topology v one in
     let at_b : ℕ → ℕ = place_of topology v two in
     let xs : List ℕ = cavities_of terminals a in

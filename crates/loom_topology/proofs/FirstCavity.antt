@@ -51,12 +51,12 @@ split_mirror topology P a b v h =
     (subst (λ x. IsAtMost (P (b + a) v) (plus x (Some (branch_at topology v)))) numbers h)
 
 -- so only parts that hold the first cavity need a test
-pub split_from_first : (topology : TopologyView) (terminals : List ℕ) (P : ℕ → ℕ → Option ℕ)
+pub first_cavity_suffices : (topology : TopologyView) (terminals : List ℕ) (P : ℕ → ℕ → Option ℕ)
     → ((a b v : ℕ) → 0 < a → 0 < b → bit_and a b ≡ 0 → HoldsFirst a (a + b) → IsMask terminals (a + b)
     → v < length topology.nodes → SplitHolds topology P a b v)
     → (a b v : ℕ) → 0 < a → 0 < b → bit_and a b ≡ 0 → IsMask terminals (a + b) → v < length topology.nodes
     → SplitHolds topology P a b v
-split_from_first topology terminals P first a b v some_a some_b apart range node =
+first_cavity_suffices topology terminals P first a b v some_a some_b apart range node =
     elim (one_holds_first a b some_a apart) [
       | inl held ↦ first a b v some_a some_b apart held range node
       | inr held ↦

@@ -15,12 +15,12 @@ least_at topology cavities v None attained below = below
 least_at topology cavities v (Some m) attained below = (attained m refl, below)
 
 -- where it has no number there is no tree
-pub least_of : (topology : TopologyView) (terminals : List ℕ) (P : ℕ → ℕ → Option ℕ)
+pub attained_legal_is_least : (topology : TopologyView) (terminals : List ℕ) (P : ℕ → ℕ → Option ℕ)
     → IsSound topology → IsLegal topology terminals P
     → ((mask v m : ℕ) → IsMask terminals mask → v < length topology.nodes → P mask v ≡ Some m
     → HasTree topology (cavities_of terminals mask) v m)
     → (mask v : ℕ) → IsMask terminals mask → v < length topology.nodes
     → IsLeast topology (cavities_of terminals mask) v (P mask v)
-least_of topology terminals P sound legal attained mask v range node =
+attained_legal_is_least topology terminals P sound legal attained mask v range node =
     least_at topology (cavities_of terminals mask) v (P mask v) (λ m e. attained mask v m range node e)
     (λ tree is_tree. legal_is_below_every_tree topology terminals P mask v tree sound legal range node is_tree)

@@ -22,9 +22,9 @@ chosen-pow (c ∷ cs) (suc i) h =
     chosen-none c cs (2 ^ suc i) even ∙ (ap (chosen cs) half ∙ chosen-pow cs i (omega arith))
 
 -- the mask of one terminal has its cavity alone
-pub cavities_of-pow : (terminals : List ℕ) (i : ℕ) → i + 1 < length terminals
+pub power_is_one_cavity : (terminals : List ℕ) (i : ℕ) → i + 1 < length terminals
     → cavities_of terminals (2 ^ i) ≡ slice_index terminals (i + 1) ∷ []
-cavities_of-pow terminals i h =
+power_is_one_cavity terminals i h =
     let within : i < length (drop 1 terminals) = omega (arith, length-drop 1 terminals) in
     let at : 1 + i ≡ i + 1 = omega arith in
     chosen-pow (drop 1 terminals) i within

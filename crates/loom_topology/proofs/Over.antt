@@ -120,9 +120,9 @@ module _ (topology : TopologyView) (cavities : List ℕ) (s v u : ℕ) (leads : 
       omega (arith, front, prices, splices)
 
 -- a step in front, over an open segment, adds its price
-pub HasTree-over : (topology : TopologyView) (cavities : List ℕ) (s v u m : ℕ) → Leads topology s v u
+pub step_adds_price : (topology : TopologyView) (cavities : List ℕ) (s v u m : ℕ) → Leads topology s v u
     → HasTree topology cavities u m → HasTree topology cavities v (m + price_at topology s)
-HasTree-over topology cavities s v u m leads (tree, is_tree, cost) =
+step_adds_price topology cavities s v u m leads (tree, is_tree, cost) =
     let at : ℕ → ℕ = place_of topology u tree in
     let drawn : Drawn topology cavities u tree at = drawn_tree topology cavities u tree is_tree in
     has_drawn topology cavities v (after_step s tree) (behind v at) (drawn_after topology cavities s v u leads tree at drawn)

@@ -7,4 +7,4 @@ use Rattle.loom_topology.specs.TreeCost.{cost_of, HasTree}
 abbrev pub IsLeast : TopologyView → List ℕ → ℕ → Option ℕ → Type 0
 IsLeast topology cavities v answer =
     MatchOption answer ((tree : Tree) → IsWiringTree topology cavities v tree → ⊥)
-      (λ m. HasTree topology cavities v m × ((tree : Tree) → IsWiringTree topology cavities v tree → m ≤ cost_of topology v tree))
+    (λ m. HasTree topology cavities v m × ((tree : Tree) → IsWiringTree topology cavities v tree → m ≤ cost_of topology v tree))

@@ -41,7 +41,7 @@ pub record IsLegal (topology : TopologyView) (terminals : List ℕ) (P : ℕ →
   pub leaf : (i : ℕ) → i + 1 < length terminals → IsAtMost (P (2 ^ i) (node_of topology (slice_index terminals (i + 1)))) (Some 0)
   -- a way over an open segment costs its price
   pub over : (mask v s u : ℕ) → IsMask terminals mask → v < length topology.nodes → Leads topology s v u
-    → IsAtMost (P mask v) (plus (P mask u) (Some (price_at topology s)))
+      → IsAtMost (P mask v) (plus (P mask u) (Some (price_at topology s)))
   -- two disjoint masks that aren't empty join for the branch cost
   pub split : (a b v : ℕ) → 0 < a → 0 < b → bit_and a b ≡ 0 → IsMask terminals (a + b) → v < length topology.nodes
-    → SplitHolds topology P a b v
+      → SplitHolds topology P a b v

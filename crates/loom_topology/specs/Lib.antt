@@ -3,3 +3,4 @@ pub mod WiringTree
 pub mod TreeCost
 pub mod Least
 pub mod Legal
+pub mod Laws

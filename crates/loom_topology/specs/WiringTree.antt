@@ -36,7 +36,7 @@ pub record IsWiringTree (topology : TopologyView) (cavities : List ℕ) (v : ℕ
   pub parent : (k : ℕ) → k < length tree.steps → (step_at tree k).parent ≤ k
   pub is_open : (k : ℕ) → k < length tree.steps → IsTrue (segment_at topology (step_at tree k).segment).is_open
   pub begins : (k : ℕ) → k < length tree.steps
-    → let g = segment_at topology (step_at tree k).segment in
+      → let g = segment_at topology (step_at tree k).segment in
       let start = place_of topology v tree (step_at tree k).parent in (g.from ≡ start) ⊎ (g.to ≡ start)
   pub hangs : AllZip (λ c point. (point ≤ length tree.steps) × (place_of topology v tree point ≡ node_of topology c))
-    cavities tree.hangs
+      cavities tree.hangs

@@ -1,0 +1,59 @@
+use Rattle.std.specs.Prelude.{ℕ, List, Option, Some, [], ◌∷◌, ◌≡◌, ◌+◌, ◌^◌, ◌<◌, length, slice_index, bit_and}
+use Rattle.loom_topology.specs.Topology.{TopologyView, IsSound, Leads, branch_at, price_at, node_of}
+use Rattle.loom_topology.specs.WiringTree.{Tree, IsWiringTree}
+use Rattle.loom_topology.specs.TreeCost.{HasTree, cost_of}
+use Rattle.loom_topology.specs.Least.{IsLeast}
+use Rattle.loom_topology.specs.Legal.{IsLegal, IsMask, IsAtMost, HoldsFirst, SplitHolds, cavities_of}
+
+-- a legal table's number for a mask at a node is at most the cost of every wiring tree for the mask's cavities from the node
+abbrev pub LegalIsBelowEveryTree : Type 0
+LegalIsBelowEveryTree =
+    (topology : TopologyView) (terminals : List ℕ) (P : ℕ → ℕ → Option ℕ) (mask v : ℕ) (tree : Tree)
+    → IsSound topology → IsLegal topology terminals P → IsMask terminals mask → v < length topology.nodes
+    → IsWiringTree topology (cavities_of terminals mask) v tree
+    → IsAtMost (P mask v) (Some (cost_of topology v tree))
+
+-- a tree for one cavity at its own node costs nothing
+abbrev pub OneCavityIsFree : Type 0
+OneCavityIsFree =
+    (topology : TopologyView) (terminals : List ℕ) (i : ℕ) → i + 1 < length terminals
+    → HasTree topology (cavities_of terminals (2 ^ i)) (node_of topology (slice_index terminals (i + 1))) 0
+
+-- a step in front, over an open segment, adds its price
+abbrev pub StepAddsPrice : Type 0
+StepAddsPrice =
+    (topology : TopologyView) (cavities : List ℕ) (s v u m : ℕ) → Leads topology s v u
+    → HasTree topology cavities u m → HasTree topology cavities v (m + price_at topology s)
+
+-- trees from one node for two disjoint masks that aren't empty make one tree for both, which costs the branch cost more
+abbrev pub TreesJoin : Type 0
+TreesJoin =
+    (topology : TopologyView) (terminals : List ℕ) (a b v m n : ℕ)
+    → 0 < a → 0 < b → bit_and a b ≡ 0 → IsMask terminals (a + b)
+    → HasTree topology (cavities_of terminals a) v m → HasTree topology (cavities_of terminals b) v n
+    → HasTree topology (cavities_of terminals (a + b)) v (m + n + branch_at topology v)
+
+-- the cavities of the mask of one terminal are its cavity alone
+abbrev pub PowerIsOneCavity : Type 0
+PowerIsOneCavity =
+    (terminals : List ℕ) (i : ℕ) → i + 1 < length terminals
+    → cavities_of terminals (2 ^ i) ≡ slice_index terminals (i + 1) ∷ []
+
+-- where the splits hold whose first part holds the first cavity, all splits hold
+abbrev pub FirstCavitySuffices : Type 0
+FirstCavitySuffices =
+    (topology : TopologyView) (terminals : List ℕ) (P : ℕ → ℕ → Option ℕ)
+    → ((a b v : ℕ) → 0 < a → 0 < b → bit_and a b ≡ 0 → HoldsFirst a (a + b) → IsMask terminals (a + b)
+    → v < length topology.nodes → SplitHolds topology P a b v)
+    → (a b v : ℕ) → 0 < a → 0 < b → bit_and a b ≡ 0 → IsMask terminals (a + b) → v < length topology.nodes
+    → SplitHolds topology P a b v
+
+-- where each number of a legal table is the cost of some tree, each cell is the least cost, and a cell without a number has no tree
+abbrev pub AttainedLegalIsLeast : Type 0
+AttainedLegalIsLeast =
+    (topology : TopologyView) (terminals : List ℕ) (P : ℕ → ℕ → Option ℕ)
+    → IsSound topology → IsLegal topology terminals P
+    → ((mask v m : ℕ) → IsMask terminals mask → v < length topology.nodes → P mask v ≡ Some m
+    → HasTree topology (cavities_of terminals mask) v m)
+    → (mask v : ℕ) → IsMask terminals mask → v < length topology.nodes
+    → IsLeast topology (cavities_of terminals mask) v (P mask v)
