@@ -11,3 +11,6 @@ pub mod Both
 pub mod Composition
 pub mod FirstCavity
 pub mod LeastCost
+pub mod Reach
+pub mod LeastLegal
+pub mod Raised

@@ -60,7 +60,7 @@ pub record Interleaved (R : ℕ → ℕ → Type 0) (cavities ha hb : List ℕ) 
 hung_at-cons : (h : ℕ) (hs : List ℕ) (p : ℕ) → hung_at (h ∷ hs) p ≡ cond (h == p) 1 0 + hung_at hs p
 hung_at-cons h hs p = sum_by-cons (λ x. cond (x == p) 1 0) h hs
 
-with_first : (R : ℕ → ℕ → Type 0) (c h : ℕ) (cavities ha hb : List ℕ) → R c h → Interleaved R cavities ha hb
+pub with_first : (R : ℕ → ℕ → Type 0) (c h : ℕ) (cavities ha hb : List ℕ) → R c h → Interleaved R cavities ha hb
     → Interleaved R (c ∷ cavities) (h ∷ ha) hb
 with_first R c h cavities ha hb r rest = record {
   both = h ∷ rest.both;

@@ -1,8 +1,11 @@
-use Rattle.std.specs.Prelude.{ℕ, List, Option, Some, [], ◌∷◌, ◌≡◌, ◌+◌, ◌^◌, ◌<◌, length, slice_index, bit_and}
+use Rattle.std.specs.List.{All}
+use Rattle.std.specs.Prelude.{ℕ, List, Option, Some, [], ◌∷◌, IsSome, ◌↔◌, ◌≡◌, ◌+◌, ◌^◌, ◌<◌, length, slice_index, bit_and}
 use Rattle.loom_topology.specs.Topology.{TopologyView, IsSound, Leads, branch_at, price_at, node_of}
 use Rattle.loom_topology.specs.WiringTree.{Tree, IsWiringTree}
 use Rattle.loom_topology.specs.TreeCost.{HasTree, cost_of}
-use Rattle.loom_topology.specs.Least.{IsLeast}
+use Rattle.loom_topology.specs.Least.{IsLeast, HasLeastCosts}
+use Rattle.loom_topology.specs.Ties.{IsOneAt, Splits, StepsTo}
+use Rattle.loom_topology.specs.Reach.{AreReached}
 use Rattle.loom_topology.specs.Legal.{IsLegal, IsMask, IsAtMost, HoldsFirst, SplitHolds, cavities_of}
 
 -- a legal table's number for a mask at a node is at most the cost of every wiring tree for the mask's cavities from the node
@@ -57,3 +60,39 @@ AttainedLegalIsLeast =
     → HasTree topology (cavities_of terminals mask) v m)
     → (mask v : ℕ) → IsMask terminals mask → v < length topology.nodes
     → IsLeast topology (cavities_of terminals mask) v (P mask v)
+
+-- cavities that are reached have a wiring tree
+abbrev pub ReachedIsTreed : Type 0
+ReachedIsTreed =
+    (topology : TopologyView) (cavities : List ℕ) (v : ℕ) → AreReached topology cavities v
+    → (m : ℕ) × HasTree topology cavities v m
+
+-- cavities that have a wiring tree are reached
+abbrev pub TreedIsReached : Type 0
+TreedIsReached =
+    (topology : TopologyView) (cavities : List ℕ) (v : ℕ) (tree : Tree) → IsWiringTree topology cavities v tree
+    → AreReached topology cavities v
+
+-- a least cost is a number exactly where the cavities are reached
+abbrev pub NumberWhereReached : Type 0
+NumberWhereReached =
+    (topology : TopologyView) (cavities : List ℕ) (v : ℕ) (least : Option ℕ)
+    → IsLeast topology cavities v least → IsSome least ↔ AreReached topology cavities v
+
+-- a table of least costs is legal
+abbrev pub LeastCostsAreLegal : Type 0
+LeastCostsAreLegal =
+    (topology : TopologyView) (terminals : List ℕ) (P : ℕ → ℕ → Option ℕ)
+    → IsSound topology → All (λ c. c < length topology.cavities) terminals → HasLeastCosts topology terminals P
+    → IsLegal topology terminals P
+
+-- a least cost comes about: the mask is one cavity at the node, or it splits there, or a step leads on
+abbrev pub ARuleApplies : Type 0
+ARuleApplies =
+    (topology : TopologyView) (terminals : List ℕ) (P : ℕ → ℕ → Option ℕ) (mask v m : ℕ)
+    → IsSound topology → All (λ c. c < length topology.cavities) terminals → HasLeastCosts topology terminals P
+    → IsMask terminals mask → v < length topology.nodes → P mask v ≡ Some m
+    → ((i : ℕ) → IsOneAt topology terminals mask v i → ⊥)
+    → ((part : ℕ) → Splits topology P mask v part → ⊥)
+    → ((s u : ℕ) → StepsTo topology P mask v s u → ⊥)
+    → ⊥

@@ -1,6 +1,8 @@
 pub mod Topology
 pub mod WiringTree
 pub mod TreeCost
-pub mod Least
 pub mod Legal
+pub mod Least
+pub mod Reach
+pub mod Ties
 pub mod Laws

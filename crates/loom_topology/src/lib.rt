@@ -6,6 +6,6 @@ mod laws;
 
 pub use kind::Kind;
 pub use laws::{
-    first_cavity_suffices, legal_and_attained_is_least, legal_is_below_every_tree,
-    power_is_one_cavity, trees_compose,
+    a_rule_applies, first_cavity_suffices, least_costs_are_legal, legal_and_attained_is_least,
+    legal_is_below_every_tree, power_is_one_cavity, reached_is_treed, trees_compose,
 };
