@@ -3,6 +3,7 @@ use Rattle.std.proofs.Common.{ℕ, List, Option, Some, None, length, slice_index
 use Rattle.std.specs.List.{All}
 use Rattle.std.proofs.Math.Pow.{pow-lt}
 use Rattle.std.proofs.lemmas.List.Elements.{All-get_or}
+use Rattle.loom_topology.proofs.Sound.{sound-from, sound-to, sound-cavity}
 use Rattle.loom_topology.specs.Topology.{TopologyView, IsSound, Leads, branch_at, price_at, node_of}
 use Rattle.loom_topology.specs.TreeCost.{HasTree, cost_of}
 use Rattle.loom_topology.specs.Legal.{IsLegal, IsMask, IsAtMost, plus, cavities_of}
@@ -24,8 +25,8 @@ pub leads_below : (topology : TopologyView) (s v u : ℕ) → IsSound topology �
 leads_below topology s v u sound leads =
     let within : s < length topology.segments = open_below topology s leads.0 in
     elim leads.1 [
-      | inl ends ↦ subst (λ x. x < length topology.nodes) ends.1 (sound.to s within)
-      | inr ends ↦ subst (λ x. x < length topology.nodes) ends.0 (sound.from s within)
+      | inl ends ↦ subst (λ x. x < length topology.nodes) ends.1 (sound-to topology sound s within)
+      | inr ends ↦ subst (λ x. x < length topology.nodes) ends.0 (sound-from topology sound s within)
     ]
 
 over_least : (topology : TopologyView) (cavities : List ℕ) (s v u : ℕ) (at_v at_u : Option ℕ) → Leads topology s v u
@@ -51,7 +52,7 @@ least_costs_are_legal topology terminals least sound in_range costs = record {
   leaf = λ i h.
       let grows : 2 ^ i < 2 ^ (length terminals - 1) = let before : i < length terminals - 1 = omega arith in pow-lt before in
       let node : node_of topology (slice_index terminals (i + 1)) < length topology.nodes =
-      sound.cavity (slice_index terminals (i + 1)) (All-get_or (λ c. c < length topology.cavities) terminals (i + 1) 0 h in_range) in
+      sound-cavity topology sound (slice_index terminals (i + 1)) (All-get_or (λ c. c < length topology.cavities) terminals (i + 1) 0 h in_range) in
       least_at_most topology (cavities_of terminals (2 ^ i)) (node_of topology (slice_index terminals (i + 1))) 0
       (least (2 ^ i) (node_of topology (slice_index terminals (i + 1))))
       (costs (2 ^ i) (node_of topology (slice_index terminals (i + 1))) (pow_pos i, grows) node)

@@ -1,7 +1,14 @@
+mod NodeLists
+pub mod OpenSegments
+mod Kept
+pub mod ShutSegments
+mod Seen
+mod TableCells
 pub mod Sums
 pub mod Bundles
 pub mod Climb
 pub mod Hangs
+pub mod Sound
 pub mod Places
 pub mod LowerBound
 pub mod Drawn

@@ -2,6 +2,7 @@
 use Rattle.std.proofs.Common.{ℕ, zero, suc, List, [], ◌∷◌, ◌++◌, length, get_or, slice_index, fold, ◌==◌, IsTrue, ◌≡◌, ◌⊎◌, ◌+◌, ◌<◌, ◌≤◌, arith, refl, sym, ap, ◌∙◌, subst, inl, inr, length-append}
 use Rattle.std.proofs.lemmas.Bool.{cases_lt, cases_Bool, cases_eq, cond-true, cond-false, false≢true, eq-eqb, ne_eqb}
 use Rattle.std.proofs.lemmas.List.{get_or_append_left, get_or_push, get_or_past}
+use Rattle.loom_topology.proofs.Sound.{sound-from, sound-to}
 use Rattle.loom_topology.specs.Topology.{TopologyView, Segment, IsSound, Leads, segment_at, no_segment}
 use Rattle.loom_topology.specs.WiringTree.{Step, Tree, IsWiringTree, no_step, step_at, other_end, places_of, place_of}
 
@@ -114,8 +115,8 @@ pub end_below : (topology : TopologyView) → IsSound topology → (s v : ℕ) �
 end_below topology sound s v is_open =
     let within : s < length topology.segments = open_below topology s is_open in
     elim (cases_Bool ((segment_at topology s).from == v)) [
-      | inl e ↦ rw (cond-true ((segment_at topology s).from == v) (segment_at topology s).to (segment_at topology s).from e) (sound.to s within)
-      | inr e ↦ rw (cond-false ((segment_at topology s).from == v) (segment_at topology s).to (segment_at topology s).from e) (sound.from s within)
+      | inl e ↦ rw (cond-true ((segment_at topology s).from == v) (segment_at topology s).to (segment_at topology s).from e) (sound-to topology sound s within)
+      | inr e ↦ rw (cond-false ((segment_at topology s).from == v) (segment_at topology s).to (segment_at topology s).from e) (sound-from topology sound s within)
     ]
 
 module _ (topology : TopologyView) (cavities : List ℕ) (v : ℕ) (tree : Tree) (is_tree : IsWiringTree topology cavities v tree) where

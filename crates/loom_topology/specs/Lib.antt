@@ -1,4 +1,9 @@
 pub mod Topology
+pub mod TopologyFault
+pub mod TopologyInside
+pub mod Incidence
+pub mod Table
+pub mod TableInside
 pub mod WiringTree
 pub mod TreeCost
 pub mod Legal
