@@ -1,1 +1,13 @@
 pub mod Topology
+pub mod TopologyFault
+pub mod TopologyInside
+pub mod Incidence
+pub mod Table
+pub mod TableInside
+pub mod WiringTree
+pub mod TreeCost
+pub mod Legal
+pub mod Least
+pub mod Reach
+pub mod Ties
+pub mod Laws

@@ -1,4 +1,5 @@
-use Rattle.std.specs.Prelude.{ℕ, List, Bool, true, false, ◌≡◌, ◌⊎◌, ◌==◌, ◌<◌, IsTrue, length, slice_index, slice_index_or, if◌then◌else◌}
+use Rattle.std.specs.Prelude.{ℕ, List, [], ◌∷◌, ◌++◌, Bool, true, false, not, Option, Some, None, ◌≡◌, ◌≢◌, ◌⊎◌, ◌==◌, ◌<◌, ◌≤◌, ◌&&◌, ◌||◌, nat_eq, IsTrue, All, filter, length, map, slice_index, slice_index_or, if◌then◌else◌}
+use Rattle.std.specs.List.{list_any, range_with_len}
 use Rattle.loom_topology.specs.declared.kind.Kind.{Kind}
 use Rattle.loom_topology.specs.declared.kind.Kind.TheVariants.{Run, Coupler}
 
@@ -57,3 +58,71 @@ abbrev pub Leads : TopologyView → ℕ → ℕ → ℕ → Type 0
 Leads topology s v u =
     let g = segment_at topology s in
     IsTrue g.is_open × (((g.from ≡ v) × (g.to ≡ u)) ⊎ ((g.from ≡ u) × (g.to ≡ v)))
+
+abbrev pub harness_at : TopologyView → ℕ → ℕ
+harness_at topology v = (node_at topology v).harness
+
+-- a segment that is open and ends at node v
+abbrev pub is_open_to : Segment → ℕ → Bool
+is_open_to g v = g.is_open && (g.from == v || g.to == v)
+
+-- the numbers of the open segments at a node, rising
+unfoldable pub open_among : List Segment → ℕ → List ℕ
+open_among segments v =
+    filter (λ s. is_open_to (slice_index_or segments s no_segment) v) (range_with_len 0 (length segments))
+
+abbrev pub open_at : TopologyView → ℕ → List ℕ
+open_at topology v = open_among topology.segments v
+
+-- the end of segment s that isn't node v; none where v is no end
+abbrev pub other_end_at : TopologyView → ℕ → ℕ → Option ℕ
+other_end_at topology s v =
+    let g = segment_at topology s in
+    if g.from == v then Some g.to else if g.to == v then Some g.from else None
+
+-- a segment joins two different nodes of the topology, at a price of 1 to 1,000,000
+pub record IsSoundSegment (node_count : ℕ) (g : Segment) : Type 0 where
+  pub from_below : g.from < node_count
+  pub to_below : g.to < node_count
+  pub apart : g.from ≢ g.to
+  pub price_from : 1 ≤ price_of g.kind
+  pub price_to : price_of g.kind ≤ 1000000
+
+-- what holds of every topology
+pub record IsSound (topology : TopologyView) : Type 0 where
+  pub segments : All (IsSoundSegment (length topology.nodes)) topology.segments
+  pub cavities : All (λ v. v < length topology.nodes) topology.cavities
+  pub branches : All (λ node. node.branch ≤ 1000000) topology.nodes
+  pub few_nodes : length topology.nodes ≤ 1024
+  pub few_segments : length topology.segments ≤ 4096
+  pub few_cavities : length topology.cavities ≤ 8192
+
+abbrev pub no_topology : TopologyView
+no_topology = record { nodes = []; segments = []; cavities = [] }
+
+abbrev pub with_node : TopologyView → ℕ → ℕ → TopologyView
+with_node topology harness branch =
+    record topology { nodes = topology.nodes ++ (record { harness = harness; branch = branch }) ∷ [] }
+
+abbrev pub with_cavity : TopologyView → ℕ → TopologyView
+with_cavity topology v = record topology { cavities = topology.cavities ++ v ∷ [] }
+
+abbrev pub open_segment : ℕ → ℕ → Kind → Segment
+open_segment from to kind = record { from = from; to = to; kind = kind; is_open = true }
+
+-- with one more segment, which is open
+abbrev pub with_segment : TopologyView → ℕ → ℕ → Kind → TopologyView
+with_segment topology from to kind =
+    record topology { segments = topology.segments ++ (open_segment from to kind) ∷ [] }
+
+abbrev pub shut_if : Bool → Segment → Segment
+shut_if is_shut g = record g { is_open = g.is_open && not is_shut }
+
+-- the same segments, those of the list shut too
+unfoldable pub shut_among : List Segment → List ℕ → List Segment
+shut_among segments list =
+    map (λ s. shut_if (list_any (nat_eq s) list) (slice_index_or segments s no_segment)) (range_with_len 0 (length segments))
+
+-- the same topology, in which the segments of the list are shut too
+abbrev pub shut_in : TopologyView → List ℕ → TopologyView
+shut_in topology list = record topology { segments = shut_among topology.segments list }

@@ -1,3 +1,6 @@
+ghost use Rattle.std.specs.Prelude.{◌≡◌, ◌≤◌};
+ghost use Rattle.loom_topology.specs.Topology.{price_of, is_coupler};
+
 use loom_base::{Pins, Price};
 
 /// What a segment is.
@@ -7,4 +10,23 @@ pub enum Kind {
     Run { length: Price },
     /// An inline coupler between two harnesses.
     Coupler { price: Price, pins: Pins },
+}
+
+impl Kind {
+    /// What a wire pays to pass: a run's length, a coupler's price.
+    pub fn price(&self) -> u64
+        ensures value { result ≡ price_of self.now }
+        ensures range { (1 ≤ result) × (result ≤ 1000000) }
+    {
+        match self {
+            Kind::Run { length } => length.get(),
+            Kind::Coupler { price, .. } => price.get(),
+        }
+    }
+
+    pub fn is_coupler(&self) -> bool
+        ensures { result ≡ is_coupler self.now }
+    {
+        matches!(self, Kind::Coupler { .. })
+    }
 }

@@ -1,6 +1,18 @@
 //! Nodes, segments and cavities of a harness, the wiring trees over them, and tables of least costs.
 #![tactic(auto)]
 
+mod fault;
+mod incidence;
 mod kind;
+mod laws;
+mod table;
+mod topology;
 
+pub use fault::TopologyFault;
 pub use kind::Kind;
+pub use laws::{
+    a_rule_applies, first_cavity_suffices, least_costs_are_legal, legal_and_attained_is_least,
+    legal_is_below_every_tree, power_is_one_cavity, reached_is_treed, trees_compose,
+};
+pub use table::Table;
+pub use topology::Topology;

@@ -1,0 +1,314 @@
+ghost use Rattle.std.specs.Prelude.{◌≡◌, ◌<◌, ◌≤◌, All, length, map, slice_get, slice_index, Ok, IfOk, IfErr, OnOk, OnErr, ◌≢◌};
+ghost use Rattle.std.specs.Option.{option_map};
+ghost use Rattle.loom_topology.specs.Topology.{IsSound, no_topology, with_node, with_cavity, with_segment, open_segment, shut_in, shut_among, IsSoundSegment, harness_at, branch_at, segment_at, price_at, node_of, open_at, other_end_at};
+ghost use Rattle.loom_topology.specs.TopologyFault.{Gives, IsDue, number_of_new};
+ghost use Rattle.loom_topology.specs.TopologyInside.{segment_of_link, IsIndexed};
+
+use crate::incidence::Incidence;
+use crate::{Kind, TopologyFault};
+use loom_base::{Branch, CavityNo, NoMemory, NodeNo, SegmentNo};
+use std::alloc::Global;
+use std::marker::Model;
+
+/// A node as it is kept.
+#[derive(Clone, Copy, Debug)]
+struct Place {
+    harness: u32,
+    branch: u64,
+}
+
+/// A segment as it is kept.
+#[derive(Clone, Copy, Debug)]
+struct Link {
+    from: NodeNo,
+    to: NodeNo,
+    kind: Kind,
+    is_open: bool,
+}
+
+impl Link {
+    /// An open segment.
+    fn new(from: NodeNo, to: NodeNo, kind: Kind) -> Link
+        ensures { segment_of_link result ≡ open_segment from.0 to.0 kind }
+    {
+        Link {
+            from,
+            to,
+            kind,
+            is_open: true,
+        }
+    }
+}
+
+/// Nodes that lie in harnesses, segments between them, and cavities at them.
+#[derive(Debug, Drop)]
+pub struct Topology {
+    places: Vec<Place>,
+    links: Vec<Link>,
+    cavities: Vec<NodeNo>,
+    incidence: Incidence,
+}
+
+impl Model for Topology {
+    ghost use Rattle.loom_topology.specs.Topology.{TopologyView};
+
+    ghost Value = { TopologyView };
+
+    ghost use Rattle.loom_topology.specs.TopologyInside.{view_of, IsKept};
+
+    ghost view = { view_of };
+
+    ghost invariant = { λ t. IsKept (view_of t) t.incidence };
+}
+
+impl Topology {
+    /// A topology without nodes.
+    pub fn new(alloc: Global) -> Topology
+        ensures { result ≡ no_topology }
+    {
+        Topology {
+            places: Vec::new(alloc),
+            links: Vec::new(alloc),
+            cavities: Vec::new(alloc),
+            incidence: Incidence::new(alloc),
+        }
+    }
+
+    /// Adds a node; after want of memory the topology is unchanged.
+    pub fn add_node(&mut self, harness: u32, branch: Branch) -> Result<NodeNo, NoMemory>
+        requires { length self.old.nodes < 1024 }
+        ensures number { IfOk result (λ node. node.0 ≡ length self.old.nodes) }
+        ensures added { OnOk result (self.new ≡ with_node self.old harness branch) }
+        ensures refused { OnErr result (self.new ≡ self.old) }
+    {
+        let number = self.places.len() as u32;
+        self.places.reserve(1)?;
+        self.incidence.add_node()?;
+        self.places.push(Place {
+            harness,
+            branch: branch.get(),
+        })?;
+        Ok(NodeNo(number))
+    }
+
+    /// Adds a cavity at a node; after want of memory the topology is unchanged.
+    pub fn add_cavity(&mut self, node: NodeNo) -> Result<CavityNo, NoMemory>
+        requires in_range { node.0 < length self.old.nodes }
+        requires room { length self.old.cavities < 8192 }
+        ensures number { IfOk result (λ cavity. cavity.0 ≡ length self.old.cavities) }
+        ensures added { OnOk result (self.new ≡ with_cavity self.old node.0) }
+        ensures refused { OnErr result (self.new ≡ self.old) }
+    {
+        let number = self.cavities.len() as u32;
+        self.cavities.push(node)?;
+        Ok(CavityNo(number))
+    }
+
+    /// Adds an open segment between two nodes, a run inside one harness or a coupler between two;
+    /// after a refusal the topology is unchanged.
+    pub fn add_segment(
+        &mut self,
+        from: NodeNo,
+        to: NodeNo,
+        kind: Kind,
+    ) -> Result<SegmentNo, TopologyFault>
+        requires from_in_range { from.0 < length self.old.nodes }
+        requires to_in_range { to.0 < length self.old.nodes }
+        requires room { length self.old.segments < 4096 }
+        ensures due { Gives result (number_of_new self.old from.0 to.0 kind) }
+        ensures added { OnOk result (self.new ≡ with_segment self.old from.0 to.0 kind) }
+        ensures refused { OnErr result (self.new ≡ self.old) }
+    {
+        self.test(from, to, kind)?;
+        let price = kind.price();
+        prove!(price <= 1_000_000);
+        let number = SegmentNo(self.links.len() as u32);
+        self.links.reserve(1)?;
+        self.incidence.add_segment(from, to, number)?;
+        self.links.push(Link::new(from, to, kind))?;
+        Ok(number)
+    }
+
+    pub fn node_count(&self) -> u32
+        ensures count { result ≡ length self.now.nodes }
+        ensures sound { IsSound self.now }
+    {
+        self.places.len() as u32
+    }
+
+    pub fn segment_count(&self) -> u32
+        ensures count { result ≡ length self.now.segments }
+        ensures sound { IsSound self.now }
+    {
+        self.links.len() as u32
+    }
+
+    pub fn cavity_count(&self) -> u32
+        ensures count { result ≡ length self.now.cavities }
+        ensures sound { IsSound self.now }
+    {
+        self.cavities.len() as u32
+    }
+
+    /// What each wire past the second costs at a splice there.
+    pub fn branch(&self, node: NodeNo) -> u64
+        requires { node.0 < length self.now.nodes }
+        ensures value { result ≡ branch_at self.now node.0 }
+        ensures range { result ≤ 1000000 }
+    {
+        self.places[node.0 as usize].branch
+    }
+
+    /// The number of the harness in which a node lies.
+    pub fn harness(&self, node: NodeNo) -> u32
+        requires { node.0 < length self.now.nodes }
+        ensures { result ≡ harness_at self.now node.0 }
+    {
+        self.places[node.0 as usize].harness
+    }
+
+    /// The nodes that a segment joins, first its `from`, then its `to`.
+    pub fn ends(&self, segment: SegmentNo) -> (NodeNo, NodeNo)
+        requires { segment.0 < length self.now.segments }
+        ensures from { result.0.0 ≡ (segment_at self.now segment.0).from }
+        ensures to { result.1.0 ≡ (segment_at self.now segment.0).to }
+        ensures from_in_range { result.0.0 < length self.now.nodes }
+        ensures to_in_range { result.1.0 < length self.now.nodes }
+    {
+        let link = &self.links[segment.0 as usize];
+        (link.from, link.to)
+    }
+
+    pub fn kind(&self, segment: SegmentNo) -> Kind
+        requires { segment.0 < length self.now.segments }
+        ensures { result ≡ (segment_at self.now segment.0).kind }
+    {
+        self.links[segment.0 as usize].kind
+    }
+
+    /// What a wire pays to pass the segment: a run's length, a coupler's price.
+    pub fn price(&self, segment: SegmentNo) -> u64
+        requires { segment.0 < length self.now.segments }
+        ensures value { result ≡ price_at self.now segment.0 }
+        ensures range { (1 ≤ result) × (result ≤ 1000000) }
+    {
+        self.links[segment.0 as usize].kind.price()
+    }
+
+    /// Whether the segment may be passed.
+    pub fn is_open(&self, segment: SegmentNo) -> bool
+        requires { segment.0 < length self.now.segments }
+        ensures { result ≡ (segment_at self.now segment.0).is_open }
+    {
+        self.links[segment.0 as usize].is_open
+    }
+
+    /// The end of a segment that isn't this node; None exactly where the node is no end.
+    pub fn other_end(&self, segment: SegmentNo, node: NodeNo) -> Option<NodeNo>
+        requires { segment.0 < length self.now.segments }
+        ensures { option_map (λ end. end.0) result ≡ other_end_at self.now segment.0 node.0 }
+    {
+        let link = &self.links[segment.0 as usize];
+        if link.from == node {
+            Some(link.to)
+        } else if link.to == node {
+            Some(link.from)
+        } else {
+            None
+        }
+    }
+
+    /// The open segments at a node, rising.
+    pub fn segments_at(&self, node: NodeNo) -> &[SegmentNo]
+        requires { node.0 < length self.now.nodes }
+        ensures { map (λ s. s.0) result.now ≡ open_at self.now node.0 }
+    {
+        self.incidence.at(node)
+    }
+
+    /// The k-th open segment at a node in rising order, None exactly past the last.
+    pub fn at(&self, node: NodeNo, k: u32) -> Option<SegmentNo>
+        requires { node.0 < length self.now.nodes }
+        ensures { option_map (λ s. s.0) result ≡ slice_get (open_at self.now node.0) k }
+    {
+        self.segments_at(node).get(k as usize).copied()
+    }
+
+    /// The node at which a cavity lies.
+    pub fn cavity_node(&self, cavity: CavityNo) -> NodeNo
+        requires { cavity.0 < length self.now.cavities }
+        ensures node { result.0 ≡ node_of self.now cavity.0 }
+        ensures in_range { result.0 < length self.now.nodes }
+    {
+        self.cavities[cavity.0 as usize]
+    }
+
+    /// The same topology, in which these segments are shut as well as those that were.
+    pub fn shut(&self, segments: &[SegmentNo]) -> Result<Topology, NoMemory>
+        requires { All (λ s. s.0 < length self.now.segments) segments.now }
+        ensures { IfOk result (λ shut. shut ≡ shut_in self.now (map (λ s. s.0) segments.now)) }
+    {
+        let alloc = *self.links.allocator();
+        let links = with_shut(alloc, &self.links, segments)?;
+        Ok(Topology {
+            places: Vec::from_slice(alloc, &self.places)?,
+            incidence: incidence_of(alloc, self.places.len(), &links)?,
+            links,
+            cavities: Vec::from_slice(alloc, &self.cavities)?,
+        })
+    }
+
+    /// Whether a segment may be added between the two nodes.
+    fn test(&self, from: NodeNo, to: NodeNo, kind: Kind) -> Result<(), TopologyFault>
+        requires from_in_range { from.0 < length self.now.nodes }
+        requires to_in_range { to.0 < length self.now.nodes }
+        ensures ok { OnOk result (number_of_new self.now from.0 to.0 kind ≡ Ok (length self.now.segments)) }
+        ensures apart { OnOk result (from.0 ≢ to.0) }
+        ensures err { IfErr result (λ fault. IsDue fault (number_of_new self.now from.0 to.0 kind)) }
+    {
+        if from == to {
+            return Err(TopologyFault::EndsEqual);
+        }
+        let one_harness = self.harness(from) == self.harness(to);
+        match kind {
+            Kind::Run { .. } if !one_harness => Err(TopologyFault::BorderCrossed),
+            Kind::Coupler { .. } if one_harness => Err(TopologyFault::NoBorder),
+            _ => Ok(()),
+        }
+    }
+}
+
+/// A copy of the links, in which these are shut too.
+fn with_shut(alloc: Global, links: &[Link], segments: &[SegmentNo]) -> Result<Vec<Link>, NoMemory>
+    requires { All (λ s. s.0 < length links.now) segments.now }
+    ensures { IfOk result (λ copy. map segment_of_link copy.items ≡ shut_among (map segment_of_link links.now) (map (λ s. s.0) segments.now)) }
+{
+    let mut copy = Vec::from_slice(alloc, links)?;
+    shut_links(&mut copy, segments);
+    Ok(copy)
+}
+
+/// Shuts these links.
+fn shut_links(links: &mut [Link], segments: &[SegmentNo])
+    requires { All (λ s. s.0 < length links.old) segments.now }
+    ensures { map segment_of_link links.new ≡ shut_among (map segment_of_link links.old) (map (λ s. s.0) segments.now) }
+{
+    for segment in segments {
+        links[segment.0 as usize].is_open = false;
+    }
+}
+
+/// The open links at each node.
+fn incidence_of(alloc: Global, node_count: usize, links: &[Link]) -> Result<Incidence, NoMemory>
+    requires few { length links.now ≤ 4096 }
+    requires sound { All (IsSoundSegment node_count) (map segment_of_link links.now) }
+    ensures { IfOk result (λ incidence. IsIndexed incidence node_count (map segment_of_link links.now)) }
+{
+    let mut incidence = Incidence::with_nodes(alloc, node_count)?;
+    for (number, link) in links.iter().enumerate() {
+        if link.is_open {
+            incidence.add_segment(link.from, link.to, SegmentNo(number as u32))?;
+        }
+    }
+    Ok(incidence)
+}
