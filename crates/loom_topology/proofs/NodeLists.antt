@@ -1,7 +1,7 @@
 -- Lists of numbers, one for each node, and what a push to one of them leaves.
-use Rattle.std.proofs.Common.{◌≡◌, ◌<◌, ◌-◌, ◌+◌, [], ◌∷◌, ◌++◌, length, map, take, get_or, ℕ, List, sym, ap, ◌∙◌, refl, arith}
+use Rattle.std.proofs.Common.{◌≡◌, ◌<◌, ◌-◌, [], ◌∷◌, ◌++◌, length, map, take, get_or, ℕ, List, sym, ap, ◌∙◌, arith}
 use Rattle.std.proofs.Math.ListN.{set}
-use Rattle.std.proofs.Math.Seq.{map-set_same, take-append_seam}
+use Rattle.std.proofs.Math.Seq.{take-append_seam}
 use Rattle.std.proofs.lemmas.List.{map-set, get_or-map, get_or-set_same, set-set, set-get_or, length-append, length-map}
 
 -- the lists, seen through f, once one of them has a number more at its end

@@ -1,5 +1,5 @@
 -- The open segments at a node: which they are, and what one more segment adds.
-use Rattle.std.proofs.Common.{◌≡◌, ◌≢◌, ◌<◌, ◌≤◌, ◌-◌, ◌+◌, [], ◌∷◌, ◌++◌, length, map, get_or, ℕ, List, Bool, true, false, cond, eqb, sym, ap, ◌∙◌, refl, arith, zero, suc, add-zero, add-one, zero-add}
+use Rattle.std.proofs.Common.{◌≡◌, ◌<◌, ◌≤◌, ◌+◌, [], ◌∷◌, ◌++◌, length, get_or, ℕ, List, Bool, false, cond, ap, ◌∙◌, refl, arith, zero, suc, add-zero, zero-add}
 use Rattle.std.specs.List.{filter, range_with_len}
 use Rattle.std.proofs.lemmas.List.{length-append}
 use Rattle.std.proofs.lemmas.List.Elements.{filter-append}

@@ -1,13 +1,13 @@
 -- Shutting the segments of a list, one after another.
-use Rattle.std.proofs.Common.{◌≡◌, ◌≢◌, ◌<◌, ◌≤◌, ◌+◌, ◌&&◌, ◌||◌, [], ◌∷◌, ◌++◌, not, length, map, get_or, ℕ, List, Bool, true, false, eqb, sym, ap, ◌∙◌, refl, arith, inl, inr}
-use Rattle.std.specs.List.{list_any, range_with_len, All}
+use Rattle.std.proofs.Common.{◌≡◌, ◌<◌, ◌&&◌, ◌||◌, [], ◌∷◌, ◌++◌, not, length, get_or, ℕ, List, true, false, eqb, sym, ap, ◌∙◌, refl, arith, inl, inr}
+use Rattle.std.specs.List.{list_any}
 use Rattle.std.proofs.Math.ListN.{set}
 use Rattle.std.proofs.Math.Bool.{and-false, and-true, or-true, or-false}
 use Rattle.std.proofs.lemmas.Bool.{cases_eq, eq-eqb, ne_eqb}
 use Rattle.std.proofs.lemmas.List.{length-set, get_or-set_same, get_or-set_other, get_or_default, same_lists}
 use Rattle.std.proofs.lemmas.List.FromFn.{length-map-range_with_len, get_or-map-range_with_len}
 use Rattle.std.proofs.lemmas.List.Folds.{list_any-append}
-use Rattle.loom_topology.specs.Topology.{Segment, TopologyView, no_segment, shut_if, shut_among, shut_in, IsSoundSegment, IsSound}
+use Rattle.loom_topology.specs.Topology.{Segment, TopologyView, no_segment, shut_if, shut_among, shut_in, IsSound}
 
 -- the new segments are the old ones, those of the list shut too
 pub record IsShut (new old : List Segment) (list : List ℕ) : Type 0 where
@@ -82,6 +82,10 @@ IsSound-shut_in topology list sound = record {
         price_from = h.price_from;
         price_to = h.price_to;
       });
+  borders = λ k d below.
+      let within : k < length topology.segments = omega (arith, length-shut_among topology.segments list) in
+      let border = sound.borders k no_segment within in
+      rw (get_or-shut_among topology.segments list k d within) border;
   cavities = sound.cavities;
   branches = sound.branches;
   few_nodes = sound.few_nodes;

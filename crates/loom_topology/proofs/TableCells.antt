@@ -1,10 +1,8 @@
 -- The cells of a table, seen through their codes.
-use Rattle.std.proofs.Common.{◌≡◌, ◌<◌, ◌≤◌, ◌+◌, ◌-◌, ◌*◌, ◌^◌, ◌∷◌, length, map, get_or, replicate, ℕ, List, Option, Some, None, false, eqb, sym, ap, ◌∙◌, refl, arith, subst, cond, zero, suc}
-use Rattle.std.specs.List.{All}
+use Rattle.std.proofs.Common.{◌≡◌, ◌≤◌, ◌*◌, ◌^◌, ◌∷◌, map, replicate, ℕ, Option, Some, None, false, eqb, sym, ap, ◌∙◌, refl, arith, subst, cond, zero, suc}
 use Rattle.std.specs.Option.{IfSome, ForSome, unwrap_or}
-use Rattle.std.proofs.Math.ListN.{set}
 use Rattle.std.proofs.lemmas.Bool.{ne_eqb}
-use Rattle.std.proofs.lemmas.List.{length-set, length-replicate, map-set, length-map}
+use Rattle.std.proofs.lemmas.List.{length-set, length-replicate}
 use Rattle.std.proofs.lemmas.List.Elements.{All-set, All-replicate}
 use Rattle.loom_topology.specs.Table.{TableView, IsWhole, with_cell, empty_table, place_of_cell}
 use Rattle.loom_topology.specs.TableInside.{value_of_code}

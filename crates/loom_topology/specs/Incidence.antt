@@ -1,4 +1,4 @@
-use Rattle.std.specs.Prelude.{ℕ, List, [], ◌∷◌, ◌++◌, ◌≡◌, ◌<◌, length, map, slice_index_or, slice_set}
+use Rattle.std.specs.Prelude.{ℕ, List, [], ◌∷◌, ◌++◌, map, slice_index_or, slice_set}
 use Rattle.loom_topology.specs.declared.incidence.Incidence.TheInside.{Inside}
 
 abbrev pub lists_of : Inside → List (List ℕ)

@@ -1,4 +1,4 @@
-use Rattle.std.specs.Prelude.{ℕ, List, Option, Some, None, ◌≡◌, ◌+◌, ◌-◌, ◌*◌, ◌^◌, ◌≤◌, length, All, IfSome, slice_index_or, slice_set, replicate}
+use Rattle.std.specs.Prelude.{ℕ, List, Option, None, ◌≡◌, ◌+◌, ◌-◌, ◌*◌, ◌^◌, ◌≤◌, length, All, IfSome, slice_index_or, slice_set, replicate}
 
 -- what contracts see of a `Table`
 pub record TableView : Type 0 where

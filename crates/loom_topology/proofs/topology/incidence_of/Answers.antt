@@ -1,4 +1,4 @@
-use Rattle.std.proofs.Common.{◌≡◌, ◌<◌, length, map, arith, sym, ◌∙◌, ap, subst, List, ℕ, [], replicate}
+use Rattle.std.proofs.Common.{arith, sym, ◌∙◌, subst, List, ℕ, []}
 use Rattle.std.proofs.lemmas.List.{length-map}
 use Rattle.loom_topology.specs.Topology.{IsSoundSegment}
 use Rattle.loom_topology.specs.TopologyInside.{segment_of_link, IsIndexed}

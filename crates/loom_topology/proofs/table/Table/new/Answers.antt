@@ -1,5 +1,5 @@
-use Rattle.std.proofs.Common.{ap, ◌∙◌, ◌≡◌, ◌*◌, map, replicate, ℕ, List, Option}
-use Rattle.loom_topology.specs.Table.{TableView, empty_table}
+use Rattle.std.proofs.Common.{ap, ◌∙◌, ◌*◌, map, ℕ, List, Option}
+use Rattle.loom_topology.specs.Table.{TableView}
 use Rattle.loom_topology.specs.TableInside.{value_of_code}
 use Rattle.loom_topology.proofs.TableCells.{IsWhole-empty_table, map-replicate}
 use Rattle.loom_topology.proofs.table.Table.new.Goals as goal

@@ -1,4 +1,4 @@
-use Rattle.std.proofs.Common.{ap, ◌∙◌, ◌≡◌, sym, map, ℕ, List, Option}
+use Rattle.std.proofs.Common.{ap, ◌∙◌, ◌≡◌, sym, ℕ, List, Option}
 use Rattle.std.proofs.Math.ListN.{set}
 use Rattle.std.proofs.lemmas.List.{map-set}
 use Rattle.loom_topology.specs.Table.{TableView, place_of_cell, with_cell}

@@ -1,5 +1,5 @@
-use Rattle.std.proofs.Common.{ap, ◌∙◌, ◌≡◌, ◌++◌, ◌∷◌, [], map, List, ℕ, length, arith}
-use Rattle.std.proofs.lemmas.List.{map-append, length-map}
+use Rattle.std.proofs.Common.{ap, ◌∙◌, ◌++◌, ◌∷◌, [], map, List, length, arith}
+use Rattle.std.proofs.lemmas.List.{map-append}
 use Rattle.loom_topology.specs.Topology.{TopologyView, Node}
 use Rattle.loom_topology.specs.TopologyInside.{view_of, node_of_place}
 use Rattle.loom_topology.proofs.Kept.{IsKept-with_node}

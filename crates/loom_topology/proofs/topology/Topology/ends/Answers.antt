@@ -1,4 +1,4 @@
-use Rattle.std.proofs.Common.{ap, ◌≡◌, ◌<◌, length, arith}
+use Rattle.std.proofs.Common.{ap, ◌≡◌, length, arith}
 use Rattle.loom_topology.specs.Topology.{TopologyView, IsSoundSegment}
 use Rattle.loom_topology.specs.TopologyInside.{view_of, segment_of_link}
 use Rattle.loom_topology.proofs.Seen.{All-seen}
