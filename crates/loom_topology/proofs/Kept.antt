@@ -1,12 +1,12 @@
 -- What is kept inside a topology is kept by each change.
-use Rattle.std.proofs.Common.{◌≡◌, ◌≢◌, ◌<◌, ◌≤◌, ◌+◌, ◌&&◌, ◌||◌, inl, inr, [], ◌∷◌, ◌++◌, length, map, get_or, ℕ, List, Bool, true, false, cond, eqb, sym, ap, ◌∙◌, refl, arith, subst, replicate, take}
+use Rattle.std.proofs.Common.{◌≡◌, ◌≢◌, ◌<◌, ◌≤◌, ◌+◌, ◌&&◌, ◌||◌, inl, inr, [], ◌∷◌, ◌++◌, length, map, get_or, ℕ, List, Bool, true, false, cond, eqb, not, sym, ap, ◌∙◌, refl, arith, subst, replicate, take}
 use Rattle.std.specs.List.{All}
 use Rattle.std.proofs.Math.Bool.{and-false, or-true}
 use Rattle.std.proofs.Math.Seq.{get_or-append_seam}
 use Rattle.std.proofs.lemmas.Bool.{cases_lt, cases_eq, eq-eqb, ne_eqb}
 use Rattle.std.proofs.lemmas.List.{length-append, length-set, get_or_append_left, get_or-set_same, get_or-set_other, append-nil, length-replicate, get_or-replicate, take_more, map-append, length-map, length-take}
 use Rattle.std.proofs.lemmas.List.Elements.{All-push, All-weaker}
-use Rattle.loom_topology.specs.Topology.{TopologyView, Segment, no_segment, is_open_to, open_among, IsSoundSegment, with_node, with_cavity, with_segment, open_segment, shut_in, shut_among}
+use Rattle.loom_topology.specs.Topology.{TopologyView, Node, Segment, no_node, no_segment, harness_at, KeepsBorder, is_open_to, open_among, IsSoundSegment, with_node, with_cavity, with_segment, open_segment, shut_in, shut_among}
 use Rattle.loom_topology.specs.TopologyInside.{IsIndexed, IsKept}
 use Rattle.loom_topology.specs.Incidence.{list_at, with_at}
 use Rattle.loom_topology.specs.declared.kind.Kind.{Kind}
@@ -58,6 +58,18 @@ IsIndexed-more_nodes incidence n segments sound indexed = record {
   ];
 }
 
+-- the border rule stays where a node is added
+more_nodes_border : (topology : TopologyView) (harness branch : ℕ) (g : Segment) → IsSoundSegment (length topology.nodes) g → KeepsBorder topology g → KeepsBorder (with_node topology harness branch) g
+more_nodes_border topology harness branch g sound border =
+    let added : List Node = (record { harness = harness; branch = branch }) ∷ [] in
+    let from : harness_at (with_node topology harness branch) g.from ≡ harness_at topology g.from =
+    ap (λ (node : Node). node.harness) (get_or_append_left topology.nodes added no_node g.from sound.from_below) in
+    let to : harness_at (with_node topology harness branch) g.to ≡ harness_at topology g.to =
+    ap (λ (node : Node). node.harness) (get_or_append_left topology.nodes added no_node g.to sound.to_below) in
+    border
+    ∙ ap (λ a. not (eqb a (harness_at topology g.to))) (sym from)
+    ∙ ap (λ b. not (eqb (harness_at (with_node topology harness branch) g.from) b)) (sym to)
+
 pub IsKept-with_node : (old new : TopologyView) (before after : List (List ℕ)) (harness branch : ℕ) → IsKept old before → new ≡ with_node old harness branch → after ≡ before ++ [] ∷ [] → branch ≤ 1000000 → length old.nodes < 1024 → IsKept new after
 IsKept-with_node old new before after harness branch kept e f low few =
     let n : length (with_node old harness branch).nodes ≡ length old.nodes + 1 =
@@ -70,6 +82,8 @@ IsKept-with_node old new before after harness branch kept e f low few =
     subst K (sym e) (subst L (sym f) (record {
       sound = record {
         segments = subst P (sym n) (All-weaker (IsSoundSegment (length old.nodes)) (IsSoundSegment (length old.nodes + 1)) (more_nodes (length old.nodes)) old.segments kept.sound.segments);
+        borders = λ k d lt.
+            more_nodes_border old harness branch (get_or old.segments k d) (kept.sound.segments k d lt) (kept.sound.borders k d lt);
         cavities = subst Q (sym n) (λ k d lt. omega (arith, kept.sound.cavities k d lt));
         branches = All-push (λ node. node.branch ≤ 1000000) old.nodes _ kept.sound.branches low;
         few_nodes = omega (arith, n);
@@ -86,6 +100,7 @@ IsKept-with_cavity old new incidence v kept e below few =
     subst K (sym e) (record {
       sound = record {
         segments = kept.sound.segments;
+        borders = kept.sound.borders;
         cavities = All-push (λ u. u < length old.nodes) old.cavities v kept.sound.cavities below;
         branches = kept.sound.branches;
         few_nodes = kept.sound.few_nodes;
@@ -132,8 +147,8 @@ IsIndexed-push_open incidence n segments g h is_open indexed =
       ];
     }
 
-pub IsKept-with_segment : (old new : TopologyView) (before after : List (List ℕ)) (from to : ℕ) (kind : Kind) (s : ℕ) → IsKept old before → new ≡ with_segment old from to kind → after ≡ with_at (with_at before from s) to s → s ≡ length old.segments → IsSoundSegment (length old.nodes) (open_segment from to kind) → length old.segments < 4096 → IsKept new after
-IsKept-with_segment old new before after from to kind s kept e f number sound few =
+pub IsKept-with_segment : (old new : TopologyView) (before after : List (List ℕ)) (from to : ℕ) (kind : Kind) (s : ℕ) → IsKept old before → new ≡ with_segment old from to kind → after ≡ with_at (with_at before from s) to s → s ≡ length old.segments → IsSoundSegment (length old.nodes) (open_segment from to kind) → KeepsBorder old (open_segment from to kind) → length old.segments < 4096 → IsKept new after
+IsKept-with_segment old new before after from to kind s kept e f number sound border few =
     let g = open_segment from to kind in
     let n : length (old.segments ++ g ∷ []) ≡ length old.segments + 1 = omega (arith, length-append old.segments (g ∷ [])) in
     let K : TopologyView → Type 0 = λ t. IsKept t after in
@@ -142,6 +157,7 @@ IsKept-with_segment old new before after from to kind s kept e f number sound fe
     subst K (sym e) (subst L (sym f) (subst M (sym number) (record {
       sound = record {
         segments = All-push (IsSoundSegment (length old.nodes)) old.segments g kept.sound.segments sound;
+        borders = All-push (KeepsBorder old) old.segments g kept.sound.borders border;
         cavities = kept.sound.cavities;
         branches = kept.sound.branches;
         few_nodes = kept.sound.few_nodes;

@@ -82,6 +82,10 @@ IsSound-shut_in topology list sound = record {
         price_from = h.price_from;
         price_to = h.price_to;
       });
+  borders = λ k d below.
+      let within : k < length topology.segments = omega (arith, length-shut_among topology.segments list) in
+      let border = sound.borders k no_segment within in
+      rw (get_or-shut_among topology.segments list k d within) border;
   cavities = sound.cavities;
   branches = sound.branches;
   few_nodes = sound.few_nodes;

@@ -88,9 +88,14 @@ pub record IsSoundSegment (node_count : ℕ) (g : Segment) : Type 0 where
   pub price_from : 1 ≤ price_of g.kind
   pub price_to : price_of g.kind ≤ 1000000
 
+-- a run lies inside one harness, a coupler joins two
+abbrev pub KeepsBorder : TopologyView → Segment → Type 0
+KeepsBorder topology g = is_coupler g.kind ≡ not (harness_at topology g.from == harness_at topology g.to)
+
 -- what holds of every topology
 pub record IsSound (topology : TopologyView) : Type 0 where
   pub segments : All (IsSoundSegment (length topology.nodes)) topology.segments
+  pub borders : All (KeepsBorder topology) topology.segments
   pub cavities : All (λ v. v < length topology.nodes) topology.cavities
   pub branches : All (λ node. node.branch ≤ 1000000) topology.nodes
   pub few_nodes : length topology.nodes ≤ 1024

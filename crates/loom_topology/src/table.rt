@@ -111,3 +111,22 @@ impl Table {
         (mask as usize - 1) * self.nodes as usize + node.0 as usize
     }
 }
+
+#[cfg(test)]
+mod tests {
+    use super::*;
+    use std::test::Fail;
+
+    #[test]
+    fn cells(rt: HostRuntime) -> Result<(), Fail> {
+        let mut table = Table::new(rt.alloc(), 3, 2)?;
+        table.set(2, NodeNo(1), Some(7));
+        let copy = table.copy()?;
+        table.set(2, NodeNo(1), None);
+        assert_eq!(rt; (copy.masks(), copy.nodes()), (3, 2));
+        assert_eq!(rt; copy.cell(2, NodeNo(1)), Some(7));
+        assert_eq!(rt; copy.cell(1, NodeNo(1)), None);
+        assert_eq!(rt; table.cell(2, NodeNo(1)), None);
+        Ok(())
+    }
+}

@@ -1,6 +1,6 @@
 ghost use Rattle.std.specs.Prelude.{◌≡◌, ◌<◌, ◌≤◌, All, length, map, slice_get, slice_index, Ok, IfOk, IfErr, OnOk, OnErr, ◌≢◌};
 ghost use Rattle.std.specs.Option.{option_map};
-ghost use Rattle.loom_topology.specs.Topology.{IsSound, no_topology, with_node, with_cavity, with_segment, open_segment, shut_in, shut_among, IsSoundSegment, harness_at, branch_at, segment_at, price_at, node_of, open_at, other_end_at};
+ghost use Rattle.loom_topology.specs.Topology.{IsSound, no_topology, with_node, with_cavity, with_segment, open_segment, shut_in, shut_among, IsSoundSegment, KeepsBorder, harness_at, branch_at, segment_at, price_at, node_of, open_at, other_end_at};
 ghost use Rattle.loom_topology.specs.TopologyFault.{Gives, IsDue, number_of_new};
 ghost use Rattle.loom_topology.specs.TopologyInside.{segment_of_link, IsIndexed};
 
@@ -246,7 +246,8 @@ impl Topology {
     /// The same topology, in which these segments are shut as well as those that were.
     pub fn shut(&self, segments: &[SegmentNo]) -> Result<Topology, NoMemory>
         requires { All (λ s. s.0 < length self.now.segments) segments.now }
-        ensures { IfOk result (λ shut. shut ≡ shut_in self.now (map (λ s. s.0) segments.now)) }
+        ensures value { IfOk result (λ shut. shut ≡ shut_in self.now (map (λ s. s.0) segments.now)) }
+        ensures count { IfOk result (λ shut. length shut.segments ≡ length self.now.segments) }
     {
         let alloc = *self.links.allocator();
         let links = with_shut(alloc, &self.links, segments)?;
@@ -264,6 +265,7 @@ impl Topology {
         requires to_in_range { to.0 < length self.now.nodes }
         ensures ok { OnOk result (number_of_new self.now from.0 to.0 kind ≡ Ok (length self.now.segments)) }
         ensures apart { OnOk result (from.0 ≢ to.0) }
+        ensures border { OnOk result (KeepsBorder self.now (open_segment from.0 to.0 kind)) }
         ensures err { IfErr result (λ fault. IsDue fault (number_of_new self.now from.0 to.0 kind)) }
     {
         if from == to {
@@ -311,4 +313,88 @@ fn incidence_of(alloc: Global, node_count: usize, links: &[Link]) -> Result<Inci
         }
     }
     Ok(incidence)
+}
+
+#[cfg(test)]
+mod tests {
+    use super::*;
+    use loom_base::{Pins, Price};
+    use std::test::Fail;
+
+    /// A node of harness 0, and one of harness 1.
+    fn two_nodes(alloc: Global, branch: Branch) -> Result<Topology, NoMemory>
+        ensures nodes { IfOk result (λ topology. length topology.nodes ≡ 2) }
+        ensures segments { IfOk result (λ topology. length topology.segments ≡ 0) }
+        ensures cavities { IfOk result (λ topology. length topology.cavities ≡ 0) }
+    {
+        let mut topology = Topology::new(alloc);
+        topology.add_node(0, branch)?;
+        topology.add_node(1, branch)?;
+        Ok(topology)
+    }
+
+    /// The two nodes, and a coupler between them.
+    fn one_coupler(alloc: Global, branch: Branch, kind: Kind) -> Result<Topology, TopologyFault>
+        ensures nodes { IfOk result (λ topology. length topology.nodes ≡ 2) }
+        ensures segments { IfOk result (λ topology. length topology.segments ≡ 1) }
+    {
+        let mut topology = two_nodes(alloc, branch)?;
+        topology.add_segment(NodeNo(0), NodeNo(1), kind)?;
+        Ok(topology)
+    }
+
+    #[test]
+    fn nodes_and_cavities(rt: HostRuntime) -> Result<(), Fail> {
+        let branch = Branch::new(10).ok_or("a branch cost")?;
+        let mut topology = two_nodes(rt.alloc(), branch)?;
+        topology.add_cavity(NodeNo(1))?;
+        assert_eq!(rt; topology.node_count(), 2);
+        assert_eq!(rt; topology.cavity_count(), 1);
+        assert_eq!(rt; topology.cavity_node(CavityNo(0)), NodeNo(1));
+        assert_eq!(rt; topology.harness(NodeNo(1)), 1);
+        assert_eq!(rt; topology.branch(NodeNo(0)), 10);
+        Ok(())
+    }
+
+    #[test]
+    fn coupler(rt: HostRuntime) -> Result<(), Fail> {
+        let branch = Branch::new(0).ok_or("a branch cost")?;
+        let price = Price::new(100).ok_or("a price")?;
+        let pins = Pins::new(2).ok_or("pins")?;
+        let kind = Kind::Coupler { price, pins };
+        let topology = one_coupler(rt.alloc(), branch, kind)?;
+        assert_eq!(rt; topology.segment_count(), 1);
+        assert_eq!(rt; topology.ends(SegmentNo(0)), (NodeNo(0), NodeNo(1)));
+        assert_eq!(rt; topology.kind(SegmentNo(0)), kind);
+        assert_eq!(rt; topology.price(SegmentNo(0)), 100);
+        assert_eq!(rt;
+            topology.other_end(SegmentNo(0), NodeNo(1)),
+            Some(NodeNo(0))
+        );
+        Ok(())
+    }
+
+    #[test]
+    fn shutting(rt: HostRuntime) -> Result<(), Fail> {
+        let branch = Branch::new(0).ok_or("a branch cost")?;
+        let price = Price::new(100).ok_or("a price")?;
+        let pins = Pins::new(2).ok_or("pins")?;
+        let topology = one_coupler(rt.alloc(), branch, Kind::Coupler { price, pins })?;
+        assert_eq!(rt; topology.segments_at(NodeNo(1)), [SegmentNo(0)].as_slice());
+        assert_eq!(rt; topology.at(NodeNo(1), 0), Some(SegmentNo(0)));
+        let shut = topology.shut(&[SegmentNo(0)])?;
+        assert!(rt; !shut.is_open(SegmentNo(0)));
+        assert_eq!(rt; shut.at(NodeNo(1), 0), None);
+        Ok(())
+    }
+
+    #[test]
+    fn borders(rt: HostRuntime) -> Result<(), Fail> {
+        let branch = Branch::new(0).ok_or("a branch cost")?;
+        let length = Price::new(1).ok_or("a price")?;
+        let mut topology = two_nodes(rt.alloc(), branch)?;
+        let outcome = topology.add_segment(NodeNo(0), NodeNo(1), Kind::Run { length });
+        assert_eq!(rt; outcome, Err(TopologyFault::BorderCrossed));
+        Ok(())
+    }
 }

@@ -1,6 +1,6 @@
-use Rattle.std.proofs.Common.{ap, ◌∙◌, ◌≡◌, ◌++◌, ◌∷◌, [], map, List, length, arith}
+use Rattle.std.proofs.Common.{ap, sym, subst, ◌∙◌, ◌≡◌, ◌++◌, ◌∷◌, [], map, List, length, arith}
 use Rattle.std.proofs.lemmas.List.{map-append, length-map}
-use Rattle.loom_topology.specs.Topology.{TopologyView, Segment}
+use Rattle.loom_topology.specs.Topology.{TopologyView, Segment, KeepsBorder, open_segment}
 use Rattle.loom_topology.specs.TopologyInside.{view_of, segment_of_link}
 use Rattle.loom_topology.proofs.Kept.{IsKept-with_segment}
 use Rattle.loom_topology.proofs.topology.Topology.add_segment.Goals as goal
@@ -13,6 +13,7 @@ invariant_of-self-2 c =
     let with : List Segment → TopologyView = λ links. record { nodes = old.nodes; segments = links; cavities = old.cavities } in
     let number : c.len.result ≡ length old.segments =
     omega (arith, c.len.ensures, c.self.inside.links.ok.0, length-map c.self.inside.links.items segment_of_link) in
+    let Keeps : TopologyView → Type 0 = λ t. KeepsBorder t (open_segment c.args.from.0 c.args.to.0 c.args.kind) in
     IsKept-with_segment old _ c.self.inside.incidence c.add_segment.new.self c.args.from.0 c.args.to.0 c.args.kind c.len.result
     c.self.invariant
     (ap with
@@ -29,4 +30,5 @@ invariant_of-self-2 c =
       price_from = omega (arith, c.price-price.ensures.value, c.price-price.ensures.range);
       price_to = omega (arith, c.price-price.ensures.value, c.price-price.ensures.range);
     })
+    (subst Keeps (sym c.self.view_is) c.in_ok-test.ensures.border)
     (omega (arith, segments, c.requires.room))

@@ -58,3 +58,11 @@ invariant_of-result c =
     ∙ ap (λ s. made old.nodes s cavities) shut
     ∙ ap (made old.nodes (shut_among old.segments list)) (ap (map (λ v. v.0)) (c.in_ok-from_slice-2.ensures.items ∙ c.deref-4.ensures.value)))
     (subst P segments (subst Q nodes c.in_ok-incidence_of.ensures))
+
+pub returns-clause-count : goal.returns-clause-count
+returns-clause-count c =
+    let list = map (λ s. s.0) c.args.segments.now in
+    ap length c.in_ok-links.ensures
+    ∙ length-shut_among (map segment_of_link c.deref.result.now) list
+    ∙ ap (λ l. length (map segment_of_link l)) c.deref.ensures.value
+    ∙ ap (λ (t : TopologyView). length t.segments) c.self.view_is
