@@ -1,0 +1,47 @@
+ghost use Rattle.std.specs.Prelude.{◌≡◌, IfOk};
+
+use loom_base::{CavityNo, List, NetNo, NoMemory, NodeNo, SegmentNo};
+use std::alloc::Global;
+
+/// An end of a wire. Ends are ordered: cavities by number, then splices by node and ordinal, then pins
+/// by coupler, pin and side.
+#[derive(Clone, Copy, Debug, PartialEq, Eq, PartialOrd, Ord)]
+pub enum End {
+    Cavity(CavityNo),
+    /// The ordinal-th splice at the node, counted from 1; a splice belongs to its wire's net.
+    Splice { node: NodeNo, ordinal: u32 },
+    /// A side of a coupler's pin: side 1 is at the coupler's `from` node, side 2 at its `to` node.
+    Pin { coupler: SegmentNo, pin: u16, side: u32 },
+}
+
+/// A wire: a chain of runs between two ends.
+#[derive(Debug, Drop)]
+pub struct Wire {
+    pub net: NetNo,
+    /// The lesser end.
+    pub from: End,
+    /// The greater end.
+    pub to: End,
+    /// The runs in order, from `from` to `to`.
+    pub route: List<SegmentNo>,
+    /// The sum of the runs' lengths, in millimetres.
+    pub length: u64,
+    /// The number of the wire's condition among the printed rows: 0 never, 1 always.
+    pub row: u32,
+}
+
+impl Wire {
+    /// The same wire.
+    pub fn copy(&self, alloc: Global) -> Result<Wire, NoMemory>
+        ensures { IfOk result (λ copy. copy ≡ self.now) }
+    {
+        Ok(Wire {
+            net: self.net,
+            from: self.from,
+            to: self.to,
+            route: self.route.copy(alloc)?,
+            length: self.length,
+            row: self.row,
+        })
+    }
+}
