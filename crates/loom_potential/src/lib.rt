@@ -1,0 +1,10 @@
+//! Whether a table of costs is legal: no cell is above what its inequalities allow, and so no cell is above what any
+//! wiring tree costs.
+#![tactic(auto)]
+
+mod first_break;
+mod inequalities;
+mod parts;
+
+pub use first_break::{FirstBreak, Part};
+pub use inequalities::legal;

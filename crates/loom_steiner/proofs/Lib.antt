@@ -1,0 +1,14 @@
+pub mod Rows
+pub mod Relaxing
+pub mod Settling
+pub mod Parts
+pub mod Starting
+pub mod Sizes
+pub mod Growing
+pub mod MaskRows
+pub mod Finished
+pub mod OpenWays
+pub mod Grounds
+pub mod Copying
+pub mod Steps
+pub mod Ends

@@ -1,0 +1,9 @@
+pub mod Ways
+pub mod Row
+pub mod Worklist
+pub mod Split
+pub mod Begin
+pub mod Filled
+pub mod Ground
+pub mod LeastTable
+pub mod Scratch
