@@ -15,3 +15,6 @@ pub use holds::broken;
 pub use name_index::NameIndex;
 pub use options::Options;
 pub use row_list::{Row, RowFault, RowList};
+
+#[cfg(test)]
+mod tests;

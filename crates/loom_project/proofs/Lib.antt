@@ -1,0 +1,7 @@
+pub mod BarredLemmas
+pub mod EachLemmas
+pub mod FormulaLemmas
+pub mod NameLemmas
+pub mod PartsLemmas
+pub mod SoundLemmas
+pub mod TopologyLemmas

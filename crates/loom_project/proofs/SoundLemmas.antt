@@ -1,0 +1,50 @@
+-- What a sound draft is, list by list.
+use Rattle.std.proofs.Common.{◌≡◌, ℕ, ◌+◌, ◌≤◌, Bool, true, false, length, refl, Ok, Err, List}
+use Rattle.std.proofs.lemmas.Bool.{leb-true}
+use Rattle.std.specs.Prelude.{nat_le}
+use Rattle.loom_base.specs.declared.limits.Which.{Which}
+use Rattle.loom_base.specs.declared.limits.Which.TheVariants as limits
+use Rattle.loom_project.specs.declared.draft.Draft.{Draft}
+use Rattle.loom_project.specs.declared.fault.ProjectFault.{ProjectFault}
+use Rattle.loom_project.specs.declared.fault.ProjectFault.TheVariants.{Limit}
+use Rattle.loom_project.specs.First.{Check, ◌>>◌, require}
+use Rattle.loom_project.specs.Draft.{node_names, cavity_names, rule_nodes}
+use Rattle.loom_project.specs.Sound.{at_most, options_check, rules_check, nodes_check, segments_check, cavities_check, nets_check, draft_check}
+
+pub passes_both : {F : Type 0} (a b : Check F) → (a >> b) ≡ Ok tt → (a ≡ Ok tt) × (b ≡ Ok tt)
+passes_both (Ok p) b h = (refl, h)
+passes_both (Err e) b h = cc
+
+pub required : {F : Type 0} (holds : Bool) (failure : F) → require holds failure ≡ Ok tt → holds ≡ true
+required true failure h = refl
+required false failure h = cc
+
+pub few : (which : Which) (limit count : ℕ) → at_most which limit count ≡ Ok tt → count ≤ limit
+few which limit count h = leb-true count limit (required (nat_le count limit) (Limit which (limit + 1)) h)
+
+-- each list of a draft passes
+pub record Passes (draft : Draft) : Type 0 where
+  pub options : options_check draft.options ≡ Ok tt
+  pub rules : rules_check draft.options draft.rules ≡ Ok tt
+  pub nodes : nodes_check draft.nodes ≡ Ok tt
+  pub segments : segments_check draft.nodes draft.segments ≡ Ok tt
+  pub cavities : cavities_check (node_names draft.nodes) draft.cavities ≡ Ok tt
+  pub nets : nets_check draft.options (cavity_names draft.cavities) (rule_nodes draft.rules) draft.nets ≡ Ok tt
+
+pub passes : (draft : Draft) → draft_check draft ≡ Ok tt → Passes draft
+unfolding draft_check
+passes draft h =
+    let a = passes_both (options_check draft.options) _ h in
+    let b = passes_both (rules_check draft.options draft.rules) _ a.1 in
+    let c = passes_both (nodes_check draft.nodes) _ b.1 in
+    let d = passes_both (segments_check draft.nodes draft.segments) _ c.1 in
+    let e = passes_both (cavities_check (node_names draft.nodes) draft.cavities) _ d.1 in
+    record { options = a.0; rules = b.0; nodes = c.0; segments = d.0; cavities = e.0; nets = e.1 }
+
+pub few_nets : (draft : Draft) → draft_check draft ≡ Ok tt → length draft.nets ≤ 2048
+unfolding nets_check
+few_nets draft h = few limits.Nets 2048 (length draft.nets) (passes_both (at_most limits.Nets 2048 (length draft.nets)) _ (passes draft h).nets).0
+
+pub few_segments : (draft : Draft) → draft_check draft ≡ Ok tt → length draft.segments ≤ 4096
+unfolding segments_check
+few_segments draft h = few limits.Segments 4096 (length draft.segments) (passes_both (at_most limits.Segments 4096 (length draft.segments)) _ (passes draft h).segments).0

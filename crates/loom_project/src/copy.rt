@@ -1,0 +1,89 @@
+ghost use Rattle.std.specs.Prelude.{◌≡◌, IfOk};
+
+use crate::{Draft, NetDraft, SegmentDraft, TerminalDraft};
+use loom_base::{List, NoMemory};
+use loom_formula::Formula;
+use std::alloc::Global;
+
+impl Draft {
+    /// A draft equal to this one.
+    pub fn copy(&self, alloc: Global) -> Result<Draft, NoMemory>
+        ensures { IfOk result (λ copy. copy ≡ self.now) }
+    {
+        Ok(Draft {
+            options: self.options.copy(alloc)?,
+            rules: copied_rules(alloc, self.rules.as_slice())?,
+            nodes: self.nodes.copy(alloc)?,
+            segments: copied_segments(alloc, self.segments.as_slice())?,
+            cavities: self.cavities.copy(alloc)?,
+            nets: copied_nets(alloc, self.nets.as_slice())?,
+        })
+    }
+}
+
+#[tactic(auto, using(crate::proofs::EachLemmas::each_steps))]
+fn copied_rules(alloc: Global, rules: &[Formula]) -> Result<List<Formula>, NoMemory>
+    ensures { IfOk result (λ copies. copies ≡ rules.now) }
+{
+    let mut copies = List::new(alloc);
+    for rule in rules {
+        copies.push(rule.copy(alloc)?)?;
+    }
+    Ok(copies)
+}
+
+fn copied_segment(alloc: Global, segment: &SegmentDraft) -> Result<SegmentDraft, NoMemory>
+    ensures { IfOk result (λ copy. copy ≡ segment.now) }
+{
+    Ok(SegmentDraft {
+        name: segment.name,
+        from: segment.from,
+        to: segment.to,
+        kind: segment.kind,
+        bars: segment.bars.copy(alloc)?,
+        reserved: segment.reserved.copy(alloc)?,
+    })
+}
+
+#[tactic(auto, using(crate::proofs::EachLemmas::each_steps))]
+fn copied_segments(alloc: Global, segments: &[SegmentDraft]) -> Result<List<SegmentDraft>, NoMemory>
+    ensures { IfOk result (λ copies. copies ≡ segments.now) }
+{
+    let mut copies = List::new(alloc);
+    for segment in segments {
+        copies.push(copied_segment(alloc, segment)?)?;
+    }
+    Ok(copies)
+}
+
+#[tactic(auto, using(crate::proofs::EachLemmas::each_steps))]
+fn copied_terminals(
+    alloc: Global,
+    terminals: &[TerminalDraft],
+) -> Result<List<TerminalDraft>, NoMemory>
+    ensures { IfOk result (λ copies. copies ≡ terminals.now) }
+{
+    let mut copies = List::new(alloc);
+    for terminal in terminals {
+        let cavity = terminal.cavity;
+        let when = terminal.when.copy(alloc)?;
+        copies.push(TerminalDraft { cavity, when })?;
+    }
+    Ok(copies)
+}
+
+#[tactic(auto, using(crate::proofs::EachLemmas::each_steps))]
+fn copied_nets(alloc: Global, nets: &[NetDraft]) -> Result<List<NetDraft>, NoMemory>
+    ensures { IfOk result (λ copies. copies ≡ nets.now) }
+{
+    let mut copies = List::new(alloc);
+    for net in nets {
+        let terminals = copied_terminals(alloc, net.terminals.as_slice())?;
+        copies.push(NetDraft {
+            name: net.name,
+            class: net.class,
+            terminals,
+        })?;
+    }
+    Ok(copies)
+}
