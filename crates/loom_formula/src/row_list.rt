@@ -129,9 +129,17 @@ impl RowList {
         rows.get(at as usize).copied()
     }
 
-    /// How many rows there are.
+    /// The rows in order; the i-th, counted from 0, has number i + 2.
+    pub fn as_slice(&self) -> &[Row]
+        ensures { result.now ≡ self.now }
+    {
+        self.rows.as_slice()
+    }
+
+    /// How many rows there are; each has a number.
     pub fn count(&self) -> u32
         ensures count { result ≡ length self.now }
+        ensures few { result < 4294967295 }
         ensures below { AreBelow self.now }
     {
         self.rows.len() as u32
