@@ -12,7 +12,7 @@ pub enum Of {
 }
 
 /// Why a draft isn't sound: its first failure in the order of options, rules, nodes, segments, cavities and nets.
-#[derive(Clone, Copy, Debug)]
+#[derive(Clone, Copy, Debug, PartialEq, Eq)]
 pub enum ProjectFault {
     /// No such thing has that name.
     UnknownName { of: Of, name: Name },

@@ -58,10 +58,6 @@ end_in_range topology s v u sound leads =
       ]
     ]
 
--- and so is the node of a cavity
-pub cavity_in_range : (topology : TopologyView) (c : ℕ) → IsSound topology → c < length topology.cavities → node_of topology c < length topology.nodes
-cavity_in_range topology c sound range = sound.cavities c 0 range
-
 -- the rows below a mask and the row of the mask
 pub IsFilled-more : (topology : TopologyView) (terminals cells row : List ℕ) (mask : ℕ) → 0 < mask → IsSound topology
     → ((i : ℕ) → i + 1 < length terminals → node_of topology (slice_index terminals (i + 1)) < length topology.nodes)

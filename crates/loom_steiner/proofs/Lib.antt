@@ -12,3 +12,4 @@ pub mod Grounds
 pub mod Copying
 pub mod Steps
 pub mod Ends
+pub mod CheapestWays

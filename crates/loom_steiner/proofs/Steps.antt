@@ -9,11 +9,12 @@ use Rattle.std.proofs.lemmas.List.{get_or-map, get_or_past, length-map}
 use Rattle.std.proofs.lemmas.Nat.{mod-mul-add}
 use Rattle.loom_base.specs.declared.positions.CavityNo.{CavityNo}
 use Rattle.loom_topology.specs.Topology.{TopologyView, node_of, IsSound}
+use Rattle.loom_topology.proofs.Sound.{sound-cavity}
 use Rattle.loom_steiner.specs.declared.ways.Way.{Way}
 use Rattle.loom_steiner.specs.Begin.{IsRow}
 use Rattle.loom_steiner.specs.Ground.{IsGround}
 use Rattle.loom_steiner.specs.Filled.{IsFilled}
-use Rattle.loom_steiner.proofs.Growing.{IsFilled-more, cavity_in_range}
+use Rattle.loom_steiner.proofs.Growing.{IsFilled-more}
 use Rattle.loom_steiner.proofs.MaskRows.{Works, row_of_mask}
 
 abbrev pub numbers_of : List CavityNo → List ℕ
@@ -55,7 +56,7 @@ homes_in_range topology terminals sound ranges i h =
     let within : i + 1 < length terminals = omega (arith, length-map terminals (λ (c : CavityNo). c.0)) in
     let at : slice_index (numbers_of terminals) (i + 1) ≡ (get_or terminals (i + 1) first).0 =
     get_or-map (λ (c : CavityNo). c.0) terminals (i + 1) first 0 within in
-    cavity_in_range topology (slice_index (numbers_of terminals) (i + 1)) sound (omega (arith, at, ranges (i + 1) first within))
+    sound-cavity topology sound (slice_index (numbers_of terminals) (i + 1)) (omega (arith, at, ranges (i + 1) first within))
 
 pub home_of : (topology : TopologyView) (terminals : List CavityNo) (i home : ℕ) (d : CavityNo) → i + 1 < length terminals
     → home ≡ node_of topology (get_or terminals (i + 1) d).0 → home ≡ node_of topology (slice_index (numbers_of terminals) (i + 1))

@@ -3,7 +3,7 @@ ghost use Rattle.std.specs.List.{All};
 ghost use Rattle.loom_topology.specs.Topology.{branch_at};
 ghost use Rattle.loom_steiner.specs.Ways.{AreWays, AreInRange};
 
-use crate::ways::{Way, ways_from};
+use crate::ways::{NO_TREE, Way, ways_from};
 use bumpalo::Bump;
 use bumpalo::collections::into_bump_slice;
 use loom_base::{NoMemory, NodeNo};
@@ -15,9 +15,11 @@ pub fn all_ways<'s>(scratch: &'s Bump, topology: &Topology) -> Result<&'s [&'s [
     ensures ways { IfOk result (λ ways. AreWays topology.now ways.now) }
     ensures range { IfOk result (λ ways. All (λ from. AreInRange (length topology.now.nodes) from.now) ways.now) }
 {
-    let mut ways = Vec::with_capacity(scratch, topology.node_count() as usize)?;
-    for node in 0..topology.node_count() {
-        ways.push(ways_from(scratch, topology, NodeNo(node))?)?;
+    let nodes = topology.node_count();
+    let cheapest = scratch.try_alloc_slice_fill_clone(nodes as usize, NO_TREE)?;
+    let mut ways = Vec::with_capacity(scratch, nodes as usize)?;
+    for node in 0..nodes {
+        ways.push(ways_from(scratch, topology, NodeNo(node), cheapest)?)?;
     }
     Ok(into_bump_slice(ways))
 }

@@ -53,9 +53,18 @@ fn three_cavities_along_a_line(rt: HostRuntime) -> Result<(), Fail> {
     let topology = built(alloc, &[10, 120, 200], &[0, 1, 2], &runs)?;
     assert!(rt; topology.cavity_count() == 3);
     let table = table(alloc, &topology, &[CavityNo(0), CavityNo(1), CavityNo(2)])?;
-    assert_eq!(rt; row(alloc, &table, 1)?.as_slice(), [Some(100), Some(0), Some(50)].as_slice());
-    assert_eq!(rt; row(alloc, &table, 2)?.as_slice(), [Some(150), Some(50), Some(0)].as_slice());
-    assert_eq!(rt; row(alloc, &table, 3)?.as_slice(), [Some(260), Some(170), Some(220)].as_slice());
+    assert_eq!(rt;
+        row(alloc, &table, 1)?.as_slice(),
+        [Some(100), Some(0), Some(50)].as_slice()
+    );
+    assert_eq!(rt;
+        row(alloc, &table, 2)?.as_slice(),
+        [Some(150), Some(50), Some(0)].as_slice()
+    );
+    assert_eq!(rt;
+        row(alloc, &table, 3)?.as_slice(),
+        [Some(260), Some(170), Some(220)].as_slice()
+    );
     Ok(())
 }
 
@@ -65,7 +74,11 @@ fn three_cavities_at_one_node(rt: HostRuntime) -> Result<(), Fail> {
     let topology = built(alloc, &[5], &[0, 0, 0], &[])?;
     assert!(rt; topology.cavity_count() == 3);
     let scratch = Bump::new(alloc);
-    let table = fill(&scratch, &topology, &[CavityNo(0), CavityNo(1), CavityNo(2)])?;
+    let table = fill(
+        &scratch,
+        &topology,
+        &[CavityNo(0), CavityNo(1), CavityNo(2)],
+    )?;
     let table = table.copy_out(alloc)?;
     assert_eq!(rt; row(alloc, &table, 2)?.as_slice(), [Some(0)].as_slice());
     assert_eq!(rt; row(alloc, &table, 3)?.as_slice(), [Some(5)].as_slice());

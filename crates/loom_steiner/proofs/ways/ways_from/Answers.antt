@@ -2,24 +2,39 @@ use Rattle.std.proofs.Common.{ℕ, List, ◌≡◌, length, sym, subst, arith}
 use Rattle.loom_topology.specs.Topology.{open_at}
 use Rattle.loom_steiner.specs.declared.ways.Way.{Way}
 use Rattle.loom_steiner.specs.Ways.{AreWaysFrom}
-use Rattle.loom_steiner.proofs.OpenWays.{Lists, lists_all, lists_more, open_at-in, seen_at, seen_len, in_range_more, first_segment}
+use Rattle.loom_steiner.proofs.OpenWays.{first_segment, seen_len, seen_segment, seen_way, in_range_more}
+use Rattle.loom_steiner.proofs.CheapestWays.{Takes, takes_skip, takes_more, takes_ways, takes_clear}
+use Rattle.loom_steiner.proofs.ways.ways_from.Goals.{then-cheapest-to+in_ok-push, else-cheapest-to}
 use Rattle.loom_steiner.proofs.ways.ways_from.Goals as goal
 
-pub way_over-requires : goal.way_over-requires
-way_over-requires c =
-    let seen = seen_at c.segments_at-segments.result.now (open_at c.args.topology.now c.args.node.0) c.loop-segment.segment-index first_segment c.segments_at-segments.ensures c.loop-segment-test.true in
-    omega (arith, seen.1, (open_at-in c.args.topology.now c.args.node.0 c.loop-segment.segment-index seen.0).0)
+pub way_over-way-requires : goal.way_over-way-requires
+way_over-way-requires c =
+    seen_segment c.args.topology.now c.args.node.0 c.segments_at-segments.result.now c.loop-segment.segment-index first_segment
+    c.segments_at-segments.ensures c.loop-segment-test.true
 
 pub loop-segment-preserved : goal.loop-segment-preserved
 loop-segment-preserved c =
     let topology = c.args.topology.now in
-    let way = c.way_over.result in
-    let seen = seen_at c.segments_at-segments.result.now (open_at topology c.args.node.0) c.loop-segment.segment-index first_segment c.segments_at-segments.ensures c.loop-segment-test.true in
-    rw c.in_ok-push.ensures.items (
-      lists_more topology c.args.node.0 c.loop-segment.segment-index c.loop-segment.ways.items way _ seen.1
-          c.way_over.ensures.to c.way_over.ensures.price c.loop-segment.invariant.0,
-      in_range_more (length topology.nodes) c.loop-segment.ways.items way c.way_over.ensures.in_range c.way_over.ensures.cheap c.loop-segment.invariant.1,
-    )
+    let k = c.loop-segment.segment-index in
+    let best = c.note_cheapest.new.cheapest in
+    let way = c.way_over-way.result in
+    let seen = seen_way topology c.args.node.0 c.segments_at-segments.result.now k first_segment way
+    c.segments_at-segments.ensures c.loop-segment-test.true c.way_over-way.ensures.to c.way_over-way.ensures.price in
+    elim c.if-cheapest-to.branch [
+      | then-cheapest-to+in_ok-push w ↦
+          rw (w.cheapest-is, w.ways-is, w.in_ok-push.ensures.items) (
+            takes_more topology c.args.node.0 k best c.loop-segment.cheapest c.loop-segment.ways.items way seen.0 seen.1 seen.2
+                (omega (arith, c.loop-segment.auto.cheapest, c.note_cheapest.auto.cheapest, c.requires.len, c.way_over-way.ensures.in_range))
+                c.way_over-way.ensures.cheap w.if-cheapest-to.true c.loop-segment.invariant.0,
+            in_range_more (length topology.nodes) c.loop-segment.ways.items way c.way_over-way.ensures.in_range c.way_over-way.ensures.cheap c.loop-segment.invariant.1,
+          )
+      | else-cheapest-to w ↦
+          rw (w.cheapest-is, w.ways-is) (
+            takes_skip topology c.args.node.0 k way.to way.price best c.loop-segment.cheapest c.loop-segment.ways.items seen.1 seen.2
+                w.if-cheapest-to.false c.loop-segment.invariant.0,
+            c.loop-segment.invariant.1,
+          )
+    ]
 
 pub returns-clause-ways : goal.returns-clause-ways
 returns-clause-ways c =
@@ -27,5 +42,13 @@ returns-clause-ways c =
     let done : c.loop-segment.segment-index ≡ length (open_at topology c.args.node.0) =
     omega (arith, seen_len c.segments_at-segments.result.now (open_at topology c.args.node.0) c.segments_at-segments.ensures) in
     subst (λ (ways : List Way). AreWaysFrom topology c.args.node.0 ways) (sym c.into_bump_slice.ensures)
-    (lists_all topology c.args.node.0 c.loop-segment.ways.items
-    (subst (λ (k : ℕ). Lists topology c.args.node.0 k c.loop-segment.ways.items) done c.loop-segment.invariant.0))
+    (takes_ways topology c.args.node.0 c.note_cheapest.new.cheapest c.loop-segment.cheapest c.loop-segment.ways.items c.requires.sound c.note_cheapest.ensures
+    (subst (λ (k : ℕ). Takes topology c.args.node.0 k c.note_cheapest.new.cheapest c.loop-segment.cheapest c.loop-segment.ways.items) done c.loop-segment.invariant.0))
+
+pub returns-clause-clear : goal.returns-clause-clear
+returns-clause-clear c =
+    let topology = c.args.topology.now in
+    let done : c.loop-segment.segment-index ≡ length (open_at topology c.args.node.0) =
+    omega (arith, seen_len c.segments_at-segments.result.now (open_at topology c.args.node.0) c.segments_at-segments.ensures) in
+    takes_clear topology c.args.node.0 c.note_cheapest.new.cheapest c.loop-segment.cheapest c.loop-segment.ways.items c.note_cheapest.ensures
+    (subst (λ (k : ℕ). Takes topology c.args.node.0 k c.note_cheapest.new.cheapest c.loop-segment.cheapest c.loop-segment.ways.items) done c.loop-segment.invariant.0)

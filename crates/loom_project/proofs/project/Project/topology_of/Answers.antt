@@ -21,4 +21,4 @@ returns c =
     (λ shut is. is ∙ net_made draft c.args.net.0 c.self.inside.topology (map (λ s. s.0) c.as_slice-2.result.now) c.as_slice.result.now c.class.result
     (c.self.invariant.topology ∙ ap topology_of c.self.view_is) (c.as_slice.ensures ∙ ap (λ d. d.segments) c.self.view_is) c.class.ensures
     (ap (map (λ s. s.0)) c.as_slice-2.ensures ∙ c.in_ok-barred.ensures.barred))
-    c.shut.ensures
+    c.shut.ensures.value

@@ -1,0 +1,5 @@
+pub mod Answer
+pub mod Plans
+pub mod Projects
+pub mod Values
+pub mod Wires

@@ -1,0 +1,96 @@
+use Rattle.std.specs.Prelude.{ℕ, List, [], ◌∷◌, map, codes, true, false}
+use Rattle.serde_json.specs.Data.{Data, boolean, string, object, put, no_members}
+use Rattle.loom_formula.specs.declared.formula.Formula.{Formula}
+use Rattle.loom_formula.specs.declared.formula.Formula.TheOpen.{Formula-F}
+use Rattle.loom_formula.specs.declared.formula.Formula.TheFolds.{fold-Formula}
+use Rattle.loom_topology.specs.declared.kind.Kind.{Kind}
+use Rattle.loom_topology.specs.declared.kind.Kind.TheVariants.{Run, Coupler}
+use Rattle.loom_project.specs.declared.draft.Draft.{Draft}
+use Rattle.loom_project.specs.declared.draft.NodeDraft.{NodeDraft}
+use Rattle.loom_project.specs.declared.draft.SegmentDraft.{SegmentDraft}
+use Rattle.loom_project.specs.declared.draft.CavityDraft.{CavityDraft}
+use Rattle.loom_project.specs.declared.draft.NetDraft.{NetDraft}
+use Rattle.loom_project.specs.declared.draft.TerminalDraft.{TerminalDraft}
+use Rattle.loom_answer.specs.Values.{whole, list_of}
+
+-- how a formula is printed, from how its inner formulas are printed
+abbrev pub formula_step : Formula-F Data (List Data) → Data
+formula_step Formula-F.Always = boolean true
+formula_step Formula-F.Never = boolean false
+formula_step (Formula-F.Is name) = string name
+formula_step (Formula-F.Not inner) = list_of (string (codes "not") ∷ inner ∷ [])
+formula_step (Formula-F.And members) = list_of (string (codes "and") ∷ members)
+formula_step (Formula-F.Or members) = list_of (string (codes "or") ∷ members)
+formula_step (Formula-F.One members) = list_of (string (codes "one") ∷ members)
+
+-- how a formula is printed
+abbrev pub formula_shown : Formula → Data
+formula_shown = fold-Formula Data (List Data) formula_step (λ m. m.list)
+
+-- how a node is printed
+abbrev pub node_shown : NodeDraft → Data
+node_shown node = object
+  (put (codes "name") (string node.name)
+  (put (codes "harness") (string node.harness)
+  (put (codes "branch") (whole node.branch)
+  no_members)))
+
+-- how a run of this length is printed
+abbrev pub run_shown : SegmentDraft → ℕ → Data
+run_shown segment length = object
+  (put (codes "to") (string segment.to)
+  (put (codes "name") (string segment.name)
+  (put (codes "length") (whole length)
+  (put (codes "from") (string segment.from)
+  no_members))))
+
+-- how a coupler of this price and so many pins is printed
+abbrev pub coupler_shown : SegmentDraft → ℕ → ℕ → Data
+coupler_shown segment price pins = object
+  (put (codes "to") (string segment.to)
+  (put (codes "price") (whole price)
+  (put (codes "pins") (whole pins)
+  (put (codes "name") (string segment.name)
+  (put (codes "from") (string segment.from)
+  no_members)))))
+
+abbrev pub kind_shown : SegmentDraft → Kind → Data
+kind_shown segment (Run length) = run_shown segment length
+kind_shown segment (Coupler price pins) = coupler_shown segment price pins
+
+-- how a run or a coupler is printed
+abbrev pub segment_draft_shown : SegmentDraft → Data
+segment_draft_shown segment = kind_shown segment segment.kind
+
+-- how a cavity is printed
+abbrev pub cavity_shown : CavityDraft → Data
+cavity_shown cavity = object
+  (put (codes "node") (string cavity.node)
+  (put (codes "name") (string cavity.name)
+  (put (codes "device") (string cavity.device)
+  no_members)))
+
+-- how a terminal is printed
+abbrev pub terminal_shown : TerminalDraft → Data
+terminal_shown terminal = object
+  (put (codes "when") (formula_shown terminal.when)
+  (put (codes "cavity") (string terminal.cavity)
+  no_members))
+
+-- how a net is printed
+abbrev pub net_shown : NetDraft → Data
+net_shown net = object
+  (put (codes "terminals") (list_of (map terminal_shown net.terminals))
+  (put (codes "name") (string net.name)
+  no_members))
+
+-- how a project is printed
+abbrev pub project_shown : Draft → Data
+project_shown draft = object
+  (put (codes "segments") (list_of (map segment_draft_shown draft.segments))
+  (put (codes "rules") (list_of (map formula_shown draft.rules))
+  (put (codes "options") (list_of (map string draft.options))
+  (put (codes "nodes") (list_of (map node_shown draft.nodes))
+  (put (codes "nets") (list_of (map net_shown draft.nets))
+  (put (codes "cavities") (list_of (map cavity_shown draft.cavities))
+  no_members))))))

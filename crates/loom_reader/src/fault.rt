@@ -1,0 +1,57 @@
+use loom_json::{JsonStop, Path, ReadStop};
+use loom_project::ProjectFault;
+
+/// Why bytes weren't read as a document: its first failure, in this order.
+#[derive(Debug, Drop)]
+pub enum ReadFault {
+    /// The bytes are no JSON text, or one nested more than 127 deep.
+    NotJson,
+    /// The first place, in reading order, that isn't of its form.
+    WrongShape { path: Path },
+    /// The first failure of the project's draft, which is never `ProjectFault::NoMemory`.
+    Project(ProjectFault),
+    /// Memory ran out, wherever it was wanted.
+    NoMemory,
+}
+
+impl From<JsonStop> for ReadFault {
+    ghost use Rattle.std.specs.Prelude.{◌≡◌};
+    ghost use Rattle.loom_reader.specs.Faults.{text_fault};
+
+    ghost from_gives = { λ stop fault. fault ≡ text_fault stop };
+
+    fn from(stop: JsonStop) -> ReadFault {
+        match stop {
+            JsonStop::NotJson => ReadFault::NotJson,
+            JsonStop::NoMemory => ReadFault::NoMemory,
+        }
+    }
+}
+
+impl From<ReadStop> for ReadFault {
+    ghost use Rattle.std.specs.Prelude.{◌≡◌};
+    ghost use Rattle.loom_reader.specs.Faults.{shape_fault};
+
+    ghost from_gives = { λ stop fault. fault ≡ shape_fault stop };
+
+    fn from(stop: ReadStop) -> ReadFault {
+        match stop {
+            ReadStop::WrongShape { path } => ReadFault::WrongShape { path },
+            ReadStop::NoMemory => ReadFault::NoMemory,
+        }
+    }
+}
+
+impl From<ProjectFault> for ReadFault {
+    ghost use Rattle.std.specs.Prelude.{◌≡◌};
+    ghost use Rattle.loom_reader.specs.Faults.{draft_fault};
+
+    ghost from_gives = { λ failure fault. fault ≡ draft_fault failure };
+
+    fn from(failure: ProjectFault) -> ReadFault {
+        match failure {
+            ProjectFault::NoMemory => ReadFault::NoMemory,
+            failure => ReadFault::Project(failure),
+        }
+    }
+}

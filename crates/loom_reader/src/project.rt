@@ -1,0 +1,35 @@
+ghost use Rattle.loom_reader.specs.Project.{project_at};
+
+use crate::formula::FormulaForm;
+use crate::parts::{CavityForm, NetForm, NodeForm, SegmentForm};
+use loom_json::ReadStop;
+use loom_json::forms::{self, Form, ListForm, NameForm};
+use loom_project::Draft;
+use serde_json::Value;
+use std::alloc::Global;
+
+/// A project.
+pub struct ProjectForm;
+
+impl Form for ProjectForm {
+    type Out = Draft;
+
+    ghost reads = { project_at };
+
+    #[tactic(auto, unfolding(crate::specs::Project::project_at))]
+    fn read(alloc: Global, value: &Value) -> Result<Draft, ReadStop> {
+        forms::keyed(
+            alloc,
+            value,
+            &["options", "rules", "nodes", "segments", "cavities", "nets"],
+        )?;
+        Ok(Draft {
+            options: forms::at_key::<ListForm<NameForm>>(alloc, value, "options")?,
+            rules: forms::at_key::<ListForm<FormulaForm>>(alloc, value, "rules")?,
+            nodes: forms::at_key::<ListForm<NodeForm>>(alloc, value, "nodes")?,
+            segments: forms::at_key::<ListForm<SegmentForm>>(alloc, value, "segments")?,
+            cavities: forms::at_key::<ListForm<CavityForm>>(alloc, value, "cavities")?,
+            nets: forms::at_key::<ListForm<NetForm>>(alloc, value, "nets")?,
+        })
+    }
+}
