@@ -40,12 +40,12 @@ pub fn at_most(
     match (left, right) {
         (_, None) => Ok(()),
         (Some(cost), Some(bound)) if cost <= bound => Ok(()),
-        (_, Some(right)) => Err(FirstBreak {
+        (cell, Some(bound)) => Err(FirstBreak {
             mask,
             node,
             part,
-            left,
-            right,
+            left: cell,
+            right: bound,
         }),
     }
 }

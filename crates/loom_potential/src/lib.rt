@@ -5,6 +5,8 @@
 mod first_break;
 mod inequalities;
 mod parts;
+#[cfg(test)]
+mod tests;
 
 pub use first_break::{FirstBreak, Part};
 pub use inequalities::legal;
