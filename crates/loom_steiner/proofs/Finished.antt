@@ -14,7 +14,7 @@ use Rattle.loom_topology.proofs.LeastCost.{attained_legal_is_least}
 use Rattle.loom_steiner.specs.declared.ways.TheConstants.{NO_TREE}
 use Rattle.loom_steiner.specs.Row.{cost_from}
 use Rattle.loom_steiner.specs.Split.{cell_in}
-use Rattle.loom_steiner.specs.Filled.{IsFilled}
+use Rattle.loom_steiner.specs.Filled.{IsFilled, reach_cost}
 use Rattle.loom_steiner.specs.LeastTable.{IsLeastTable}
 use Rattle.loom_steiner.specs.Scratch.{scratch_view}
 use Rattle.loom_steiner.proofs.Growing.{place_below}
@@ -130,14 +130,22 @@ module _ (topology : TopologyView) (terminals cells : List ℕ) (sound : IsSound
         (small_cost (slice_index cells k) (λ number. omega (arith, cell_known k within number))));
   }
 
+  cell_read : (mask v : ℕ) → IsMask terminals mask → v < length topology.nodes
+      → cell_at (scratch_view (2 ^ (length terminals - 1) - 1) (length topology.nodes) cells) mask v ≡ cost_from (cell_in cells (length topology.nodes) mask v)
+  cell_read mask v range node =
+      let n = length topology.nodes in
+      let within : (mask - 1) * n + v < length cells = omega (arith, filled.len, place_below mask (2 ^ (length terminals - 1)) n v range.0 range.1 node) in
+      get_or-map cost_from cells ((mask - 1) * n + v) 0 None within
+
   pub filled_is_least_table : IsLeastTable topology terminals (scratch_view (2 ^ (length terminals - 1) - 1) (length topology.nodes) cells)
   filled_is_least_table = record {
     masks = refl;
     nodes = refl;
     least = λ mask v range node.
+        subst (λ (c : Option ℕ). IsLeast topology (cavities_of terminals mask) v c) (sym (cell_read mask v range node)) (filled_is_least mask v range node);
+    small = λ mask v m range node cell.
         (let n = length topology.nodes in
-        let within : (mask - 1) * n + v < length cells = omega (arith, filled.len, place_below mask (2 ^ (length terminals - 1)) n v range.0 range.1 node) in
-        let e : cell_at (scratch_view (2 ^ (length terminals - 1) - 1) n cells) mask v ≡ cost_from (cell_in cells n mask v) =
-        get_or-map cost_from cells ((mask - 1) * n + v) 0 None within in
-        subst (λ (c : Option ℕ). IsLeast topology (cavities_of terminals mask) v c) (sym e) (filled_is_least mask v range node));
+        let p = cost-some (cell_in cells n mask v) m (sym (cell_read mask v range node) ∙ cell) in
+        subst (λ (y : ℕ). y + reach_cost n ≤ 2 * length (cavities_of terminals mask) * reach_cost n) p.1
+            (filled.bounded mask v range.0 range.1 node p.0));
   }

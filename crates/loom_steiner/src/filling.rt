@@ -12,8 +12,9 @@ use loom_base::{CavityNo, NoMemory};
 use loom_topology::Topology;
 use std::collections::BinaryHeap;
 
-/// The table of least costs of a net's terminals, filled in an arena. The first terminal is the
-/// stem; bit i of a mask stands for terminal i + 1.
+/// The table of least costs of a net's terminals, filled in an arena: for each set of cavities and
+/// each node the least cost of a wiring tree over open segments. The first terminal is the stem;
+/// bit i of a mask stands for terminal i + 1.
 pub fn fill<'s>(
     scratch: &'s Bump,
     topology: &Topology,

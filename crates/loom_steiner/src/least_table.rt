@@ -8,8 +8,9 @@ use loom_base::{CavityNo, NoMemory};
 use loom_topology::{Table, Topology};
 use std::alloc::Global;
 
-/// The table of least costs of a net's terminals. The first terminal is the stem; bit i of a mask
-/// stands for terminal i + 1.
+/// The table of least costs of a net's terminals: for each set of cavities and each node the least
+/// cost of a wiring tree over open segments. The first terminal is the stem; bit i of a mask stands
+/// for terminal i + 1.
 pub fn table(alloc: Global, topology: &Topology, terminals: &[CavityNo]) -> Result<Table, NoMemory>
     requires at_least { 2 ≤ length terminals.now }
     requires at_most { length terminals.now ≤ 12 }

@@ -30,7 +30,7 @@ impl<'s> Model for ScratchTable<'s> {
 
 impl<'s> ScratchTable<'s> {
     /// The table of these cells, mask after mask.
-    pub fn of(masks: u32, nodes: u32, cells: &'s [u64]) -> ScratchTable<'s>
+    pub(crate) fn of(masks: u32, nodes: u32, cells: &'s [u64]) -> ScratchTable<'s>
         requires { IsWhole (scratch_view masks nodes cells.now) }
         ensures { result ≡ scratch_view masks nodes cells.now }
     {
