@@ -9,9 +9,9 @@ use Rattle.loom_answer.specs.Projects.{project_shown}
 -- the answer that has a plan and the project that it is for
 abbrev pub answer_of : Plan → Draft → Data
 answer_of plan project = object
-  (put (codes "version") (whole 1)
-  (put (codes "reports") (list_of [])
-  (put (codes "project") (project_shown project)
-  (put (codes "plan") (plan_shown plan)
-  (put (codes "outcomes") (list_of [])
-  no_members)))))
+    (put (codes "version") (whole 1)
+    (put (codes "reports") (list_of [])
+    (put (codes "project") (project_shown project)
+    (put (codes "plan") (plan_shown plan)
+    (put (codes "outcomes") (list_of [])
+    no_members)))))

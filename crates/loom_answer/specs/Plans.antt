@@ -24,17 +24,17 @@ step_shown step = numbers (step.0 ∷ step.1.0 ∷ [])
 -- an object's members with those that show a layout
 abbrev pub with_layout_shown : Layout → Members → Members
 with_layout_shown layout members =
-  put (codes "steps") (list_of (map step_shown layout.steps))
-  (put (codes "hangs") (list_of (map whole layout.hangs)) members)
+    put (codes "steps") (list_of (map step_shown layout.steps))
+    (put (codes "hangs") (list_of (map whole layout.hangs)) members)
 
 -- how a live set is printed
 abbrev pub set_shown : SetLine → Data
 set_shown line = object (with_layout_shown line.layout
-  (put (codes "row") (whole line.row)
-  (put (codes "net") (whole line.net.0)
-  (put (codes "mask") (whole line.mask)
-  (put (codes "cost") (whole line.cost)
-  no_members)))))
+    (put (codes "row") (whole line.row)
+    (put (codes "net") (whole line.net.0)
+    (put (codes "mask") (whole line.mask)
+    (put (codes "cost") (whole line.cost)
+    no_members)))))
 
 -- a cell is printed as its number, or as null where there is none
 abbrev pub cell_shown : Option ℕ → Data
@@ -52,34 +52,34 @@ cells_shown table = list_of (map (λ place. mask_shown table (place + 1)) (range
 -- how a table is printed
 abbrev pub table_shown : TableLine → Data
 table_shown line = object
-  (put (codes "net") (whole line.net.0)
-  (put (codes "cells") (cells_shown line.table)
-  no_members))
+    (put (codes "net") (whole line.net.0)
+    (put (codes "cells") (cells_shown line.table)
+    no_members))
 
 -- how the pin of a crossing is printed
 abbrev pub pin_shown : PinLine → Data
 pin_shown line = object
-  (put (codes "pin") (whole line.pin)
-  (put (codes "ordinal") (whole line.ordinal)
-  (put (codes "net") (whole line.net.0)
-  (put (codes "coupler") (whole line.coupler.0)
-  no_members))))
+    (put (codes "pin") (whole line.pin)
+    (put (codes "ordinal") (whole line.ordinal)
+    (put (codes "net") (whole line.net.0)
+    (put (codes "coupler") (whole line.coupler.0)
+    no_members))))
 
 -- how a module is printed
 abbrev pub module_shown : Module → Data
 module_shown part = object
-  (put (codes "wires") (list_of (map whole part.wires))
-  (put (codes "row") (whole part.row)
-  (put (codes "harness") (whole part.harness)
-  no_members)))
+    (put (codes "wires") (list_of (map whole part.wires))
+    (put (codes "row") (whole part.row)
+    (put (codes "harness") (whole part.harness)
+    no_members)))
 
 -- how a plan is printed
 abbrev pub plan_shown : Plan → Data
 plan_shown plan = object
-  (put (codes "wires") (list_of (map wire_shown plan.wires))
-  (put (codes "tables") (list_of (map table_shown plan.tables))
-  (put (codes "sets") (list_of (map set_shown plan.sets))
-  (put (codes "rows") (list_of (map row_shown plan.rows))
-  (put (codes "pins") (list_of (map pin_shown plan.pins))
-  (put (codes "modules") (list_of (map module_shown plan.modules))
-  no_members))))))
+    (put (codes "wires") (list_of (map wire_shown plan.wires))
+    (put (codes "tables") (list_of (map table_shown plan.tables))
+    (put (codes "sets") (list_of (map set_shown plan.sets))
+    (put (codes "rows") (list_of (map row_shown plan.rows))
+    (put (codes "pins") (list_of (map pin_shown plan.pins))
+    (put (codes "modules") (list_of (map module_shown plan.modules))
+    no_members))))))

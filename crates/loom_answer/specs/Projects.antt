@@ -30,29 +30,29 @@ formula_shown = fold-Formula Data (List Data) formula_step (λ m. m.list)
 -- how a node is printed
 abbrev pub node_shown : NodeDraft → Data
 node_shown node = object
-  (put (codes "name") (string node.name)
-  (put (codes "harness") (string node.harness)
-  (put (codes "branch") (whole node.branch)
-  no_members)))
+    (put (codes "name") (string node.name)
+    (put (codes "harness") (string node.harness)
+    (put (codes "branch") (whole node.branch)
+    no_members)))
 
 -- how a run of this length is printed
 abbrev pub run_shown : SegmentDraft → ℕ → Data
 run_shown segment length = object
-  (put (codes "to") (string segment.to)
-  (put (codes "name") (string segment.name)
-  (put (codes "length") (whole length)
-  (put (codes "from") (string segment.from)
-  no_members))))
+    (put (codes "to") (string segment.to)
+    (put (codes "name") (string segment.name)
+    (put (codes "length") (whole length)
+    (put (codes "from") (string segment.from)
+    no_members))))
 
 -- how a coupler of this price and so many pins is printed
 abbrev pub coupler_shown : SegmentDraft → ℕ → ℕ → Data
 coupler_shown segment price pins = object
-  (put (codes "to") (string segment.to)
-  (put (codes "price") (whole price)
-  (put (codes "pins") (whole pins)
-  (put (codes "name") (string segment.name)
-  (put (codes "from") (string segment.from)
-  no_members)))))
+    (put (codes "to") (string segment.to)
+    (put (codes "price") (whole price)
+    (put (codes "pins") (whole pins)
+    (put (codes "name") (string segment.name)
+    (put (codes "from") (string segment.from)
+    no_members)))))
 
 abbrev pub kind_shown : SegmentDraft → Kind → Data
 kind_shown segment (Run length) = run_shown segment length
@@ -65,32 +65,32 @@ segment_draft_shown segment = kind_shown segment segment.kind
 -- how a cavity is printed
 abbrev pub cavity_shown : CavityDraft → Data
 cavity_shown cavity = object
-  (put (codes "node") (string cavity.node)
-  (put (codes "name") (string cavity.name)
-  (put (codes "device") (string cavity.device)
-  no_members)))
+    (put (codes "node") (string cavity.node)
+    (put (codes "name") (string cavity.name)
+    (put (codes "device") (string cavity.device)
+    no_members)))
 
 -- how a terminal is printed
 abbrev pub terminal_shown : TerminalDraft → Data
 terminal_shown terminal = object
-  (put (codes "when") (formula_shown terminal.when)
-  (put (codes "cavity") (string terminal.cavity)
-  no_members))
+    (put (codes "when") (formula_shown terminal.when)
+    (put (codes "cavity") (string terminal.cavity)
+    no_members))
 
 -- how a net is printed
 abbrev pub net_shown : NetDraft → Data
 net_shown net = object
-  (put (codes "terminals") (list_of (map terminal_shown net.terminals))
-  (put (codes "name") (string net.name)
-  no_members))
+    (put (codes "terminals") (list_of (map terminal_shown net.terminals))
+    (put (codes "name") (string net.name)
+    no_members))
 
 -- how a project is printed
 abbrev pub project_shown : Draft → Data
 project_shown draft = object
-  (put (codes "segments") (list_of (map segment_draft_shown draft.segments))
-  (put (codes "rules") (list_of (map formula_shown draft.rules))
-  (put (codes "options") (list_of (map string draft.options))
-  (put (codes "nodes") (list_of (map node_shown draft.nodes))
-  (put (codes "nets") (list_of (map net_shown draft.nets))
-  (put (codes "cavities") (list_of (map cavity_shown draft.cavities))
-  no_members))))))
+    (put (codes "segments") (list_of (map segment_draft_shown draft.segments))
+    (put (codes "rules") (list_of (map formula_shown draft.rules))
+    (put (codes "options") (list_of (map string draft.options))
+    (put (codes "nodes") (list_of (map node_shown draft.nodes))
+    (put (codes "nets") (list_of (map net_shown draft.nets))
+    (put (codes "cavities") (list_of (map cavity_shown draft.cavities))
+    no_members))))))

@@ -19,10 +19,10 @@ end_shown (Pin coupler pin side) = tagged (codes "pin") (coupler.0 ∷ pin ∷ s
 -- how a wire is printed
 abbrev pub wire_shown : Wire → Data
 wire_shown w = object
-  (put (codes "to") (end_shown w.to)
-  (put (codes "row") (whole w.row)
-  (put (codes "route") (list_of (map segment_shown w.route))
-  (put (codes "net") (whole w.net.0)
-  (put (codes "length") (whole w.length)
-  (put (codes "from") (end_shown w.from)
-  no_members))))))
+    (put (codes "to") (end_shown w.to)
+    (put (codes "row") (whole w.row)
+    (put (codes "route") (list_of (map segment_shown w.route))
+    (put (codes "net") (whole w.net.0)
+    (put (codes "length") (whole w.length)
+    (put (codes "from") (end_shown w.from)
+    no_members))))))

@@ -19,7 +19,12 @@ pub fn answer(alloc: Global, plan: &Plan, project: &Project) -> Result<Value, No
 {
     let plan = PlanShown::value(alloc, plan)?;
     let project = ProjectShown::value(alloc, project.draft())?;
-    let members = with(alloc, Map::new(alloc), "outcomes", Value::Array(Vec::new(alloc)))?;
+    let members = with(
+        alloc,
+        Map::new(alloc),
+        "outcomes",
+        Value::Array(Vec::new(alloc)),
+    )?;
     let members = with(alloc, members, "plan", plan)?;
     let members = with(alloc, members, "project", project)?;
     let members = with(alloc, members, "reports", Value::Array(Vec::new(alloc)))?;

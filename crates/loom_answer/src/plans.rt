@@ -25,7 +25,11 @@ impl Shown for RowShown {
     fn value(alloc: Global, row: &Row) -> Result<Value, NoMemory> {
         numbers(
             alloc,
-            &[u64::from(row.option), u64::from(row.low), u64::from(row.high)],
+            &[
+                u64::from(row.option),
+                u64::from(row.low),
+                u64::from(row.high),
+            ],
         )
     }
 }
@@ -134,7 +138,12 @@ impl Shown for PinShown {
     ghost shows = { pin_shown };
 
     fn value(alloc: Global, line: &PinLine) -> Result<Value, NoMemory> {
-        let members = with(alloc, Map::new(alloc), "coupler", whole(u64::from(line.coupler.0)))?;
+        let members = with(
+            alloc,
+            Map::new(alloc),
+            "coupler",
+            whole(u64::from(line.coupler.0)),
+        )?;
         let members = with(alloc, members, "net", whole(u64::from(line.net.0)))?;
         let members = with(alloc, members, "ordinal", whole(u64::from(line.ordinal)))?;
         let members = with(alloc, members, "pin", whole(u64::from(line.pin)))?;
@@ -152,7 +161,12 @@ impl Shown for ModuleShown {
 
     fn value(alloc: Global, part: &Module) -> Result<Value, NoMemory> {
         let wires = array::<WholeShown>(alloc, part.wires.as_slice())?;
-        let members = with(alloc, Map::new(alloc), "harness", whole(u64::from(part.harness)))?;
+        let members = with(
+            alloc,
+            Map::new(alloc),
+            "harness",
+            whole(u64::from(part.harness)),
+        )?;
         let members = with(alloc, members, "row", whole(u64::from(part.row)))?;
         let members = with(alloc, members, "wires", wires)?;
         Ok(Value::Object(members))

@@ -112,7 +112,12 @@ fn run_value(alloc: Global, segment: &SegmentDraft, length: Price) -> Result<Val
 }
 
 /// The value of a coupler.
-fn coupler_value(alloc: Global, segment: &SegmentDraft, price: Price, pins: Pins) -> Result<Value, NoMemory>
+fn coupler_value(
+    alloc: Global,
+    segment: &SegmentDraft,
+    price: Price,
+    pins: Pins,
+) -> Result<Value, NoMemory>
     ensures { IfOk result (λ value. view value ≡ coupler_shown segment.now price pins) }
 {
     let from = shown::name(alloc, &segment.from)?;

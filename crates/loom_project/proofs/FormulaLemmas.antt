@@ -1,5 +1,5 @@
 -- The options that a formula names, from those of its members, and formulas that are counted one by one.
-use Rattle.std.proofs.Common.{◌≡◌, ℕ, ◌+◌, ◌<◌, ◌^◌, List, [], ◌∷◌, ◌++◌, map, length, take, drop, suc, get_or, Ok, Err, append-nil, refl, sym, ap, ◌∙◌, min, arith}
+use Rattle.std.proofs.Common.{◌≡◌, ℕ, ◌+◌, ◌<◌, List, [], ◌∷◌, ◌++◌, map, length, take, drop, suc, get_or, Ok, Err, append-nil, refl, sym, ap, ◌∙◌, arith}
 use Rattle.std.specs.Prelude.{sum_by}
 use Rattle.std.specs.List.{flat_map}
 use Rattle.std.proofs.lemmas.List.Sums.{sum_by-append}
@@ -9,7 +9,7 @@ use Rattle.loom_formula.specs.declared.formula.Formula.TheOpen.{Formula-F}
 use Rattle.loom_formula.specs.declared.formula.Formula.TheFolds.{fold-Members, fold-roll-Formula, fold_out-Members}
 use Rattle.loom_formula.specs.declared.formula.Members.{Members}
 use Rattle.loom_formula.specs.Formula.{members_of}
-use Rattle.loom_project.specs.First.{Check, ◌>>◌, every}
+use Rattle.loom_project.specs.First.{Check, every}
 use Rattle.loom_project.specs.Draft.{names_step, option_names}
 use Rattle.loom_project.proofs.EachLemmas.{take_next, parted, every-append}
 

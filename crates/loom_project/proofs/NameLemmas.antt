@@ -1,14 +1,12 @@
 -- Names in an index, and the numbers of harnesses.
-use Rattle.std.proofs.Common.{◌≡◌, ℕ, suc, ◌+◌, ◌≤◌, List, [], ◌∷◌, ◌++◌, length, map, Bool, true, false, ◌||◌, ◌&&◌, not, if◌then◌else◌, get_or, take, ◌<◌, refl, sym, ap, ◌∙◌, bytes_eq, arith, length-append}
+use Rattle.std.proofs.Common.{◌≡◌, ℕ, ◌+◌, ◌≤◌, List, [], ◌∷◌, ◌++◌, length, map, Bool, true, false, ◌||◌, ◌&&◌, not, if◌then◌else◌, get_or, take, ◌<◌, refl, ap, ◌∙◌, bytes_eq, arith, length-append}
 use Rattle.std.specs.Prelude.{fold}
 use Rattle.std.specs.List.{list_any, list_all, position_or_len}
 use Rattle.std.proofs.lemmas.Cmp.{nat_list_eq_equiv}
-use Rattle.std.proofs.lemmas.List.{map-append}
 use Rattle.std.proofs.lemmas.List.Folds.{list_any-append}
 use Rattle.std.proofs.lemmas.List.Sums.{fold-append}
 use Rattle.std.proofs.lemmas.List.{length-map, length-take}
 use Rattle.loom_formula.specs.NameIndex.{has_name, with_name}
-use Rattle.loom_topology.specs.Topology.{Node}
 use Rattle.loom_project.proofs.EachLemmas.{map_next}
 use Rattle.loom_project.specs.declared.draft.NodeDraft.{NodeDraft}
 use Rattle.loom_project.specs.Draft.{place_of, each_once, harness_labels}

@@ -1,11 +1,10 @@
 -- What a sound draft is, list by list.
-use Rattle.std.proofs.Common.{◌≡◌, ℕ, ◌+◌, ◌≤◌, Bool, true, false, length, refl, Ok, Err, List}
+use Rattle.std.proofs.Common.{◌≡◌, ℕ, ◌+◌, ◌≤◌, Bool, true, false, length, refl, Ok, Err}
 use Rattle.std.proofs.lemmas.Bool.{leb-true}
 use Rattle.std.specs.Prelude.{nat_le}
 use Rattle.loom_base.specs.declared.limits.Which.{Which}
 use Rattle.loom_base.specs.declared.limits.Which.TheVariants as limits
 use Rattle.loom_project.specs.declared.draft.Draft.{Draft}
-use Rattle.loom_project.specs.declared.fault.ProjectFault.{ProjectFault}
 use Rattle.loom_project.specs.declared.fault.ProjectFault.TheVariants.{Limit}
 use Rattle.loom_project.specs.First.{Check, ◌>>◌, require}
 use Rattle.loom_project.specs.Draft.{node_names, cavity_names, rule_nodes}

@@ -1,12 +1,12 @@
 -- A topology that grows by the next node, segment or cavity of a draft.
-use Rattle.std.proofs.Common.{◌≡◌, ℕ, ◌+◌, ◌<◌, List, [], ◌∷◌, ◌++◌, length, get_or, take, map, refl, sym, ap, ◌∙◌}
+use Rattle.std.proofs.Common.{◌≡◌, ℕ, ◌+◌, ◌<◌, List, [], length, get_or, take, map, sym, ap, ◌∙◌}
 use Rattle.loom_formula.specs.NameIndex.{with_name}
 use Rattle.loom_topology.specs.Topology.{TopologyView, Node, with_node, with_segment, with_cavity}
 use Rattle.loom_project.specs.declared.draft.NodeDraft.{NodeDraft}
 use Rattle.loom_project.specs.declared.draft.SegmentDraft.{SegmentDraft}
 use Rattle.loom_project.specs.declared.draft.CavityDraft.{CavityDraft}
 use Rattle.loom_project.specs.Draft.{place_of, each_once, harness_labels}
-use Rattle.loom_project.specs.Project.{placed_node, placed_nodes, placed_segment}
+use Rattle.loom_project.specs.Project.{placed_nodes, placed_segment}
 use Rattle.loom_project.proofs.EachLemmas.{map_next}
 use Rattle.loom_project.proofs.NameLemmas.{placed_next}
 

@@ -1,4 +1,4 @@
-use Rattle.std.specs.Prelude.{ℕ, List, [], ◌∷◌, ◌+◌, Option, map, sum, sum_by, fold, slice_index_or, bytes_eq, true}
+use Rattle.std.specs.Prelude.{ℕ, List, [], ◌∷◌, map, sum_by, fold, slice_index_or, bytes_eq}
 use Rattle.std.specs.List.{flat_map, position_or_len}
 use Rattle.loom_formula.specs.declared.formula.Formula.{Formula}
 use Rattle.loom_formula.specs.declared.formula.Formula.TheOpen.{Formula-F}

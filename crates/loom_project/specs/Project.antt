@@ -7,7 +7,6 @@ use Rattle.loom_formula.specs.NameIndex.{has_name}
 use Rattle.loom_project.specs.declared.draft.Draft.{Draft}
 use Rattle.loom_project.specs.declared.draft.NodeDraft.{NodeDraft}
 use Rattle.loom_project.specs.declared.draft.SegmentDraft.{SegmentDraft}
-use Rattle.loom_project.specs.declared.draft.CavityDraft.{CavityDraft}
 use Rattle.loom_project.specs.declared.draft.NetDraft.{NetDraft}
 use Rattle.loom_project.specs.declared.draft.TerminalDraft.{TerminalDraft}
 use Rattle.loom_project.specs.Draft.{place_of, each_once, node_names, harness_labels, cavity_names}

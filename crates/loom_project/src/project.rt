@@ -1,4 +1,4 @@
-ghost use Rattle.std.specs.Prelude.{◌≡◌, ◌<◌, ◌≤◌, length, map, Ok, IfOk, OnOk, OnErr};
+ghost use Rattle.std.specs.Prelude.{◌≡◌, ◌≢◌, ◌<◌, ◌≤◌, All, AllPairs, length, map, Ok, IfOk, OnOk, OnErr};
 ghost use Rattle.loom_project.specs.Draft.{cavity_names};
 ghost use Rattle.loom_project.specs.Project.{topology_of, net_places, net_at, cavities_of, when_at, reserved_of, net_topology};
 ghost use Rattle.loom_project.specs.Sound.{draft_check, Gives};
@@ -169,7 +169,11 @@ impl Project {
     /// The cavities of a net in the order of its terminals.
     pub fn cavities(&self, net: NetNo) -> &[CavityNo]
         requires { net.0 < length self.now.nets }
-        ensures { map (λ c. c.0) result.now ≡ cavities_of self.now net.0 }
+        ensures places { map (λ c. c.0) result.now ≡ cavities_of self.now net.0 }
+        ensures at_least { 2 ≤ length result.now }
+        ensures at_most { length result.now ≤ 12 }
+        ensures in_range { All (λ c. c.0 < length self.now.cavities) result.now }
+        ensures different { AllPairs (λ a b. a ≢ b) (cavities_of self.now net.0) }
     {
         self.cavities.as_slice()[net.0 as usize].as_slice()
     }

@@ -1,9 +1,7 @@
 use crate::{
     CavityDraft, Draft, NetDraft, NodeDraft, Of, Project, ProjectFault, SegmentDraft, TerminalDraft,
 };
-use loom_base::{
-    Branch, CavityNo, List, Name, NetNo, NoMemory, NodeNo, Pins, Price, SegmentNo, Which,
-};
+use loom_base::{Branch, CavityNo, List, Name, NetNo, NoMemory, Pins, Price, SegmentNo, Which};
 use loom_formula::{Formula, Members};
 use loom_topology::Kind;
 use std::alloc::Global;
@@ -157,114 +155,161 @@ fn draft(alloc: Global, case: &Case, class: &[u8]) -> Result<Draft, Fail> {
 }
 
 /// The failure that the check of a draft names.
-fn refusal(alloc: Global, case: &Case) -> Result<Option<ProjectFault>, Fail> {
-    match Project::check(alloc, draft(alloc, case, b"std")?) {
-        Ok(_project) => Ok(None),
-        Err(fault) => Ok(Some(fault)),
-    }
+fn refusal(alloc: Global, case: Case) -> Result<Option<ProjectFault>, Fail> {
+    Ok(Project::check(alloc, draft(alloc, &case, b"std")?).err())
 }
 
 #[test]
-fn segments_and_formulas(rt: HostRuntime) -> Result<(), Fail> {
+fn ends(rt: HostRuntime) -> Result<(), Fail> {
     let segment = name(b"S1")?;
-    let a = name(b"A")?;
-    let limit = |which, count| Some(ProjectFault::Limit { which, count });
-    let cases = [
-        (RUN, None),
-        (COUPLER, None),
-        (
-            Case { to: b"N1", ..RUN },
-            Some(ProjectFault::EndsEqual { segment }),
-        ),
-        (
-            Case {
-                harness: b"H2",
-                ..RUN
-            },
-            Some(ProjectFault::BorderCrossed { segment }),
-        ),
-        (
-            Case {
-                harness: b"H",
-                ..COUPLER
-            },
-            Some(ProjectFault::NoBorder { segment }),
-        ),
-        (
-            Case {
-                reserved: &[1, 3],
-                ..COUPLER
-            },
-            Some(ProjectFault::ReservedPin { segment, pin: 3 }),
-        ),
-        (
-            Case {
-                reserved: &[1, 3],
-                ..RUN
-            },
-            Some(ProjectFault::ReservedPin { segment, pin: 1 }),
-        ),
-        (Case { bars: 64, ..RUN }, None),
-        (Case { bars: 65, ..RUN }, limit(Which::Bars, 65)),
-        (Case { depth: 64, ..RUN }, None),
-        (Case { depth: 65, ..RUN }, limit(Which::FormulaDepth, 65)),
-        (
-            Case {
-                options: &[b"B"],
-                ..RUN
-            },
-            Some(ProjectFault::UnknownName {
-                of: Of::OptionName,
-                name: a,
-            }),
-        ),
-        (
-            Case {
-                options: &[b"A", b"A"],
-                ..RUN
-            },
-            Some(ProjectFault::RepeatedName {
-                of: Of::OptionName,
-                name: a,
-            }),
-        ),
-    ];
-    for (case, fault) in cases {
-        assert_eq!(rt; refusal(rt.alloc(), &case)?, fault);
-    }
+    let looped = refusal(rt.alloc(), Case { to: b"N1", ..RUN })?;
+    let crossing = refusal(
+        rt.alloc(),
+        Case {
+            harness: b"H2",
+            ..RUN
+        },
+    )?;
+    let inside = refusal(
+        rt.alloc(),
+        Case {
+            harness: b"H",
+            ..COUPLER
+        },
+    )?;
+    assert_eq!(rt; looped, Some(ProjectFault::EndsEqual { segment }));
+    assert_eq!(rt; crossing, Some(ProjectFault::BorderCrossed { segment }));
+    assert_eq!(rt; inside, Some(ProjectFault::NoBorder { segment }));
+    Ok(())
+}
+
+#[test]
+fn reserved_pins(rt: HostRuntime) -> Result<(), Fail> {
+    let segment = name(b"S1")?;
+    let past = refusal(
+        rt.alloc(),
+        Case {
+            reserved: &[1, 3],
+            ..COUPLER
+        },
+    )?;
+    let of_run = refusal(
+        rt.alloc(),
+        Case {
+            reserved: &[1, 3],
+            ..RUN
+        },
+    )?;
+    assert_eq!(rt; past, Some(ProjectFault::ReservedPin { segment, pin: 3 }));
+    assert_eq!(rt; of_run, Some(ProjectFault::ReservedPin { segment, pin: 1 }));
+    Ok(())
+}
+
+#[test]
+fn limits(rt: HostRuntime) -> Result<(), Fail> {
+    let within = refusal(
+        rt.alloc(),
+        Case {
+            depth: 64,
+            bars: 64,
+            ..RUN
+        },
+    )?;
+    let deep = refusal(rt.alloc(), Case { depth: 65, ..RUN })?;
+    let barred = refusal(rt.alloc(), Case { bars: 65, ..RUN })?;
+    let wide = refusal(
+        rt.alloc(),
+        Case {
+            terminals: THIRTEEN,
+            ..RUN
+        },
+    )?;
+    assert_eq!(rt; within, None);
+    assert_eq!(rt;
+        deep,
+        Some(ProjectFault::Limit {
+            which: Which::FormulaDepth,
+            count: 65
+        })
+    );
+    assert_eq!(rt;
+        barred,
+        Some(ProjectFault::Limit {
+            which: Which::Bars,
+            count: 65
+        })
+    );
+    assert_eq!(rt;
+        wide,
+        Some(ProjectFault::Limit {
+            which: Which::Terminals,
+            count: 13
+        })
+    );
+    Ok(())
+}
+
+#[test]
+fn option_names(rt: HostRuntime) -> Result<(), Fail> {
+    let of = Of::OptionName;
+    let name = name(b"A")?;
+    let unknown = refusal(
+        rt.alloc(),
+        Case {
+            options: &[b"B"],
+            ..RUN
+        },
+    )?;
+    let repeated = refusal(
+        rt.alloc(),
+        Case {
+            options: &[b"A", b"A"],
+            ..RUN
+        },
+    )?;
+    assert_eq!(rt; unknown, Some(ProjectFault::UnknownName { of, name }));
+    assert_eq!(rt; repeated, Some(ProjectFault::RepeatedName { of, name }));
     Ok(())
 }
 
 #[test]
 fn terminals(rt: HostRuntime) -> Result<(), Fail> {
     let net = name(b"W1")?;
-    let c1 = name(b"C1")?;
-    let c9 = name(b"C9")?;
-    let cases: [(&'static [&'static [u8]], ProjectFault); 4] = [
-        (&[b"C1"], ProjectFault::TooFewTerminals { net, count: 1 }),
-        (
-            &[b"C1", b"C1"],
-            ProjectFault::TerminalRepeated { net, cavity: c1 },
-        ),
-        (
-            &[b"C1", b"C9"],
-            ProjectFault::UnknownName {
-                of: Of::Cavity,
-                name: c9,
-            },
-        ),
-        (
-            THIRTEEN,
-            ProjectFault::Limit {
-                which: Which::Terminals,
-                count: 13,
-            },
-        ),
-    ];
-    for (terminals, fault) in cases {
-        let case = Case { terminals, ..RUN };
-        assert_eq!(rt; refusal(rt.alloc(), &case)?, Some(fault));
-    }
+    let cavity = name(b"C1")?;
+    let few = refusal(
+        rt.alloc(),
+        Case {
+            terminals: &[b"C1"],
+            ..RUN
+        },
+    )?;
+    let repeated = refusal(
+        rt.alloc(),
+        Case {
+            terminals: &[b"C1", b"C1"],
+            ..RUN
+        },
+    )?;
+    let unknown = refusal(
+        rt.alloc(),
+        Case {
+            terminals: &[b"C1", b"C9"],
+            ..RUN
+        },
+    )?;
+    assert_eq!(rt; few, Some(ProjectFault::TooFewTerminals { net, count: 1 }));
+    assert_eq!(rt;
+        repeated,
+        Some(ProjectFault::TerminalRepeated { net, cavity })
+    );
+    let name = name(b"C9")?;
+    assert_eq!(rt;
+        unknown,
+        Some(ProjectFault::UnknownName {
+            of: Of::Cavity,
+            name
+        })
+    );
     Ok(())
 }
 

@@ -8,6 +8,8 @@ mod numbers;
 mod outline;
 mod parts;
 mod project;
+#[cfg(test)]
+mod tests;
 
 pub use document::{Document, read};
 pub use fault::ReadFault;

@@ -147,5 +147,5 @@ module _ (topology : TopologyView) (terminals cells : List ℕ) (sound : IsSound
         (let n = length topology.nodes in
         let p = cost-some (cell_in cells n mask v) m (sym (cell_read mask v range node) ∙ cell) in
         subst (λ (y : ℕ). y + reach_cost n ≤ 2 * length (cavities_of terminals mask) * reach_cost n) p.1
-            (filled.bounded mask v range.0 range.1 node p.0));
+        (filled.bounded mask v range.0 range.1 node p.0));
   }

@@ -43,7 +43,7 @@ kept-tail : (b : Bool) (a s : ℕ) (l : List ℕ) → Contains l s → Contains 
 kept-tail true a s l h = Contains-cons s a l h
 kept-tail false a s l h = h
 
-Contains-filter_range : (p : ℕ → Bool) (a n s : ℕ) → a ≤ s → s < a + n → p s ≡ true → Contains (filter p (range_with_len a n)) s
+pub Contains-filter_range : (p : ℕ → Bool) (a n s : ℕ) → a ≤ s → s < a + n → p s ≡ true → Contains (filter p (range_with_len a n)) s
 Contains-filter_range p a zero s from to passes = absurd (omega arith)
 Contains-filter_range p a (suc n) s from to passes =
     let rest = filter p (range_with_len (a + 1) n) in

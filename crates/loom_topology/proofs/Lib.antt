@@ -20,5 +20,7 @@ pub mod Composition
 pub mod FirstCavity
 pub mod LeastCost
 pub mod Reach
+pub mod Found
 pub mod LeastLegal
 pub mod Raised
+pub mod Spread

@@ -8,7 +8,7 @@ use Rattle.std.proofs.lemmas.List.{get_or_append_left}
 use Rattle.loom_topology.specs.Topology.{Segment, no_segment, is_open_to, open_among}
 
 -- the numbers from a on: one more stands at their end
-range_with_len-more : (a n : ℕ) → range_with_len a (n + 1) ≡ range_with_len a n ++ (a + n) ∷ []
+pub range_with_len-more : (a n : ℕ) → range_with_len a (n + 1) ≡ range_with_len a n ++ (a + n) ∷ []
 range_with_len-more a zero = rw add-zero refl
 range_with_len-more a (suc n) =
     let longer : suc n + 1 ≡ suc (n + 1) = omega arith in

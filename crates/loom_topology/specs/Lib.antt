@@ -9,5 +9,6 @@ pub mod TreeCost
 pub mod Legal
 pub mod Least
 pub mod Reach
+pub mod Found
 pub mod Ties
 pub mod Laws

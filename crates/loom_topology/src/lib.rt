@@ -5,6 +5,7 @@ mod fault;
 mod incidence;
 mod kind;
 mod laws;
+mod spreading;
 mod table;
 mod topology;
 

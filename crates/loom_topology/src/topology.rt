@@ -1,12 +1,16 @@
-ghost use Rattle.std.specs.Prelude.{◌≡◌, ◌<◌, ◌≤◌, All, length, map, slice_get, slice_index, Ok, IfOk, IfErr, OnOk, OnErr, ◌≢◌};
+ghost use Rattle.std.specs.Prelude.{ℕ, ◌↔◌, ◌≡◌, ◌<◌, ◌≤◌, All, length, map, slice_get, slice_index, Ok, IfOk, IfErr, OnOk, OnErr, ◌≢◌};
+ghost use Rattle.std.specs.List.{Contains};
+ghost use Rattle.std.specs.List.Sorted.{IsStrictlyIncreasing};
 ghost use Rattle.std.specs.Option.{option_map};
 ghost use Rattle.loom_topology.specs.Topology.{IsSound, no_topology, with_node, with_cavity, with_segment, open_segment, shut_in, shut_among, IsSoundSegment, KeepsBorder, harness_at, branch_at, segment_at, price_at, node_of, open_at, other_end_at};
+ghost use Rattle.loom_topology.specs.Reach.{IsReached};
 ghost use Rattle.loom_topology.specs.TopologyFault.{Gives, IsDue, number_of_new};
 ghost use Rattle.loom_topology.specs.TopologyInside.{segment_of_link, IsIndexed};
 
 use crate::incidence::Incidence;
+use crate::spreading::reached_from;
 use crate::{Kind, TopologyFault};
-use loom_base::{Branch, CavityNo, NoMemory, NodeNo, SegmentNo};
+use loom_base::{Branch, CavityNo, List, NoMemory, NodeNo, SegmentNo};
 use std::alloc::Global;
 use std::marker::Model;
 
@@ -234,6 +238,15 @@ impl Topology {
         self.segments_at(node).get(k as usize).copied()
     }
 
+    /// The nodes that chains of open segments reach from this one, itself among them, rising.
+    pub fn reach(&self, node: NodeNo) -> Result<List<NodeNo>, NoMemory>
+        requires { node.0 < length self.now.nodes }
+        ensures rising { IfOk result (λ nodes. IsStrictlyIncreasing (map (λ v. v.0) nodes)) }
+        ensures reached { IfOk result (λ nodes. (u : ℕ) → Contains (map (λ v. v.0) nodes) u ↔ IsReached self.now node.0 u) }
+    {
+        reached_from(*self.links.allocator(), self, node)
+    }
+
     /// The node at which a cavity lies.
     pub fn cavity_node(&self, cavity: CavityNo) -> NodeNo
         requires { cavity.0 < length self.now.cavities }
@@ -371,6 +384,20 @@ mod tests {
             topology.other_end(SegmentNo(0), NodeNo(1)),
             Some(NodeNo(0))
         );
+        Ok(())
+    }
+
+    #[test]
+    fn reaching(rt: HostRuntime) -> Result<(), Fail> {
+        let branch = Branch::new(0).ok_or("a branch cost")?;
+        let price = Price::new(100).ok_or("a price")?;
+        let pins = Pins::new(2).ok_or("pins")?;
+        let topology = one_coupler(rt.alloc(), branch, Kind::Coupler { price, pins })?;
+        let both = topology.reach(NodeNo(1))?;
+        assert_eq!(rt; both.as_slice(), [NodeNo(0), NodeNo(1)].as_slice());
+        let shut = topology.shut(&[SegmentNo(0)])?;
+        let one = shut.reach(NodeNo(1))?;
+        assert_eq!(rt; one.as_slice(), [NodeNo(1)].as_slice());
         Ok(())
     }
 

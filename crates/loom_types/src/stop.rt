@@ -26,7 +26,10 @@ pub enum PlanStop {
         ordinal: u32,
     },
     /// The quantity passes its limit; the count is the limit plus one.
-    Limit { which: Which, count: u64 },
+    Limit {
+        which: Which,
+        count: u64,
+    },
     /// Memory ran out.
     NoMemory,
 }

@@ -9,9 +9,16 @@ use std::alloc::Global;
 pub enum End {
     Cavity(CavityNo),
     /// The ordinal-th splice at the node, counted from 1; a splice belongs to its wire's net.
-    Splice { node: NodeNo, ordinal: u32 },
+    Splice {
+        node: NodeNo,
+        ordinal: u32,
+    },
     /// A side of a coupler's pin: side 1 is at the coupler's `from` node, side 2 at its `to` node.
-    Pin { coupler: SegmentNo, pin: u16, side: u32 },
+    Pin {
+        coupler: SegmentNo,
+        pin: u16,
+        side: u32,
+    },
 }
 
 /// A wire: a chain of runs between two ends.

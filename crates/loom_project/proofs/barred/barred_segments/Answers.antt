@@ -1,4 +1,4 @@
-use Rattle.std.proofs.Common.{◌≡◌, [], map, get_or, refl, sym, ap, ◌∙◌}
+use Rattle.std.proofs.Common.{[], refl, sym, ap, ◌∙◌}
 use Rattle.std.proofs.lemmas.List.{get_or-map}
 use Rattle.loom_formula.specs.NameIndex.{has_name}
 use Rattle.loom_project.proofs.BarredLemmas.{barred_next, within_next}

@@ -1,8 +1,8 @@
-use Rattle.std.proofs.Common.{◌≡◌, Ok, Err, map, sym, ap, ◌∙◌}
+use Rattle.std.proofs.Common.{◌≡◌, Ok, ap, ◌∙◌}
 use Rattle.std.proofs.lemmas.Result.{err_from_is_err_and}
-use Rattle.loom_project.specs.Draft.{node_names, cavity_names, rule_nodes}
+use Rattle.loom_project.specs.Draft.{node_names, cavity_names}
 use Rattle.loom_project.specs.Project.{net_places}
-use Rattle.loom_project.specs.Sound.{options_check, rules_check, nodes_check, segments_check, cavities_check, nets_check, draft_check}
+use Rattle.loom_project.specs.Sound.{options_check, rules_check, nodes_check, segments_check, cavities_check, draft_check}
 use Rattle.loom_project.proofs.PartsLemmas.{topology_made, last_decides}
 use Rattle.loom_project.proofs.project.checked_parts.Goals as goal
 

@@ -1,9 +1,6 @@
-use Rattle.std.proofs.Common.{◌≡◌, ◌++◌, ◌∷◌, [], List, ℕ, Ok, Err, ap, sym, ◌∙◌, map, subst, take}
+use Rattle.std.proofs.Common.{◌++◌, ◌∷◌, [], ap, sym, ◌∙◌}
 use Rattle.std.proofs.lemmas.Result.{err_from_is_err_and}
-use Rattle.loom_topology.specs.Topology.{TopologyView, with_segment}
-use Rattle.loom_project.specs.Project.{placed_segment}
-use Rattle.loom_project.specs.Draft.{node_names, segment_names}
-use Rattle.loom_project.specs.Sound.{segment_check, segments_check}
+use Rattle.loom_project.specs.Sound.{segments_check}
 use Rattle.loom_project.proofs.EachLemmas.{list_stops, each_next, map_next}
 use Rattle.loom_project.proofs.TopologyLemmas.{segment_added}
 use Rattle.loom_project.proofs.segments.add_segments.Goals as goal

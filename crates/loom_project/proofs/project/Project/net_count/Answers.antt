@@ -1,4 +1,4 @@
-use Rattle.std.proofs.Common.{◌≤◌, arith}
+use Rattle.std.proofs.Common.{arith}
 use Rattle.loom_project.specs.Draft.{cavity_names}
 use Rattle.loom_project.proofs.PartsLemmas.{count_places}
 use Rattle.loom_project.proofs.SoundLemmas.{few_nets}

@@ -1,7 +1,6 @@
-use Rattle.std.proofs.Common.{◌≡◌, ◌≤◌, ◌<◌, length, map, ap, sym, ◌∙◌, arith}
+use Rattle.std.proofs.Common.{map, ap, ◌∙◌}
 use Rattle.std.proofs.lemmas.Result.{IfOk-weaker}
-use Rattle.loom_topology.specs.Topology.{shut_in}
-use Rattle.loom_project.specs.Project.{topology_of, net_topology}
+use Rattle.loom_project.specs.Project.{topology_of}
 use Rattle.loom_project.proofs.PartsLemmas.{net_made, count_segments}
 use Rattle.loom_project.proofs.SoundLemmas.{few_segments}
 use Rattle.loom_project.proofs.project.Project.topology_of.Goals as goal

@@ -1,0 +1,14 @@
+pub mod Conditions
+pub mod Ends
+pub mod Outcomes
+pub mod Made
+pub mod Index
+pub mod Joins
+pub mod Counted
+pub mod Worked
+pub mod LeastChoices
+pub mod Progress
+pub mod Members
+pub mod WorkFolds
+pub mod TakeIn
+pub mod PrintSteps

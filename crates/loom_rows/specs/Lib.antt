@@ -1,0 +1,11 @@
+pub mod Condition
+pub mod Table
+pub mod Leftovers
+pub mod Inside
+pub mod Outcome
+pub mod Search
+pub mod Formulas
+pub mod RowLists
+pub mod Taken
+pub mod Printed
+pub mod Printing
