@@ -17,6 +17,3 @@ mod segments;
 pub use draft::{CavityDraft, Draft, NetDraft, NodeDraft, SegmentDraft, TerminalDraft};
 pub use fault::{Of, ProjectFault};
 pub use project::Project;
-
-#[cfg(test)]
-mod tests;
