@@ -1,4 +1,5 @@
 pub mod Answer
+pub mod Faults
 pub mod Plans
 pub mod Projects
 pub mod Values

@@ -1,4 +1,4 @@
-use Rattle.std.specs.Prelude.{ℕ, List, [], ◌∷◌, ◌+◌, map, codes, Option, Some, None}
+use Rattle.std.specs.Prelude.{ℕ, [], ◌∷◌, ◌+◌, map, codes, Option, Some, None}
 use Rattle.std.specs.List.{range_with_len}
 use Rattle.serde_json.specs.Data.{Data, null, object, Members, put, no_members}
 use Rattle.loom_base.specs.declared.positions.SegmentNo.{SegmentNo}

@@ -1,5 +1,5 @@
-use Rattle.std.specs.Prelude.{ℕ, List, [], ◌∷◌, map}
-use Rattle.serde_json.specs.Data.{Data, number, string, array, object, Num, unsigned, Members, no_members, member}
+use Rattle.std.specs.Prelude.{ℕ, List, ◌∷◌, map}
+use Rattle.serde_json.specs.Data.{Data, number, string, array, unsigned}
 use Rattle.serde_json.specs.View.{items_of}
 
 -- a whole number

@@ -1,4 +1,4 @@
-use Rattle.std.specs.Prelude.{ℕ, List, [], ◌∷◌, map, codes}
+use Rattle.std.specs.Prelude.{[], ◌∷◌, map, codes}
 use Rattle.serde_json.specs.Data.{Data, object, put, no_members}
 use Rattle.loom_base.specs.declared.positions.SegmentNo.{SegmentNo}
 use Rattle.loom_types.specs.declared.wire.End.{End}

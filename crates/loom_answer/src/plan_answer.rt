@@ -1,5 +1,6 @@
-ghost use Rattle.std.specs.Prelude.{◌≡◌, IfOk};
+ghost use Rattle.std.specs.Prelude.{◌≡◌, false, IfOk};
 ghost use Rattle.serde_json.specs.View.{view};
+ghost use Rattle.serde_json.specs.Written.{has_float};
 ghost use Rattle.loom_answer.specs.Answer.{answer_of};
 
 use crate::plans::PlanShown;
@@ -12,9 +13,8 @@ use loom_types::Plan;
 use serde_json::{Map, Value};
 use std::alloc::Global;
 
-/// The value of the line that answers `plan`: the plan and the project that it is for. There are no
-/// outcomes and no reports.
-pub fn answer(alloc: Global, plan: &Plan, project: &Project) -> Result<Value, NoMemory>
+/// The answer as a value.
+fn answer_value(alloc: Global, plan: &Plan, project: &Project) -> Result<Value, NoMemory>
     ensures { IfOk result (λ value. view value ≡ answer_of plan.now project.now) }
 {
     let plan = PlanShown::value(alloc, plan)?;
@@ -30,4 +30,14 @@ pub fn answer(alloc: Global, plan: &Plan, project: &Project) -> Result<Value, No
     let members = with(alloc, members, "reports", Value::Array(Vec::new(alloc)))?;
     let members = with(alloc, members, "version", whole(1))?;
     Ok(Value::Object(members))
+}
+
+/// The value of the line that answers `plan`: the plan and the project that it is for. There are no
+/// outcomes and no reports, and no number is a float.
+#[tactic(auto, using(crate::proofs::WithoutFloats::plain_answer))]
+pub fn answer(alloc: Global, plan: &Plan, project: &Project) -> Result<Value, NoMemory>
+    ensures value { IfOk result (λ value. view value ≡ answer_of plan.now project.now) }
+    ensures plain { IfOk result (λ value. has_float (view value) ≡ false) }
+{
+    answer_value(alloc, plan, project)
 }

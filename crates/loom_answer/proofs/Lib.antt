@@ -1,0 +1,2 @@
+pub mod FaultsWithoutFloats
+pub mod WithoutFloats
