@@ -4,5 +4,6 @@ pub mod FormulaLemmas
 pub mod NameLemmas
 pub mod NetLemmas
 pub mod PartsLemmas
+pub mod SegmentLemmas
 pub mod SoundLemmas
 pub mod TopologyLemmas

@@ -41,7 +41,8 @@ has_name-kept_all : (names others : List (List ℕ)) (name : List ℕ) → has_n
 has_name-kept_all names [] name h = h
 has_name-kept_all names (other ∷ others) name h = has_name-kept_all (with_name names other) others name (has_name-kept names other name h)
 
-all_there : (names others : List (List ℕ)) → list_all (has_name (fold with_name names others)) others ≡ true
+-- names that were put in are there
+pub all_there : (names others : List (List ℕ)) → list_all (has_name (fold with_name names others)) others ≡ true
 all_there names [] = refl
 all_there names (other ∷ others) =
     rw (has_name-kept_all (with_name names other) others other (has_name-added names other)) (all_there (with_name names other) others)

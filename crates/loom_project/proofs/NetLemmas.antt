@@ -32,7 +32,7 @@ each_at check xs i x is lt all =
     sym (ap (each check) (parted xs i x is lt) ∙ each_after-append check [] (take i xs) (x ∷ drop (suc i) xs)) ∙ all in
     (passes_both (check (take i xs) x) _ (passes_both (each check (take i xs)) _ parts).1).0
 
-place_below : (p : List ℕ → Bool) (names : List (List ℕ)) → list_any p names ≡ true → position_or_len p names < length names
+pub place_below : (p : List ℕ → Bool) (names : List (List ℕ)) → list_any p names ≡ true → position_or_len p names < length names
 place_below p [] h = cc
 place_below p (x ∷ xs) h =
     elim (p x) as (λ b. (b || list_any p xs) ≡ true → (if not b then 1 + position_or_len p xs else 0) < length (x ∷ xs))
@@ -50,7 +50,7 @@ pub record AreSound (cavities : List (List ℕ)) (terminals : List TerminalDraft
   pub there : (k : ℕ) (d : TerminalDraft) → k < length terminals → has_name cavities (get_or terminals k d).cavity ≡ true
   pub new : (k : ℕ) (d : TerminalDraft) → k < length terminals → list_any (λ earlier. bytes_eq (get_or terminals k d).cavity earlier.cavity) (take k terminals) ≡ false
 
-not_true : (b : Bool) → not b ≡ true → b ≡ false
+pub not_true : (b : Bool) → not b ≡ true → b ≡ false
 not_true true h = cc
 not_true false h = refl
 
@@ -118,8 +118,9 @@ all_in_range names terminals found n sound same count = λ k d lt.
     sym (get_or-map (λ c. c.0) found k d d.0 lt) ∙ ap (λ ps. get_or ps k d.0) same ∙ place_at names terminals k d.0 within in
     rw (value, ← count) (place_below (bytes_eq (get_or terminals k no_terminal).cavity) names (sound.there k no_terminal within))
 
-same_cavity : (names : List (List ℕ)) (a b : List ℕ) → has_name names a ≡ true → has_name names b ≡ true → place_of names a ≡ place_of names b → bytes_eq b a ≡ true
-same_cavity names a b here there same =
+-- two names that stand at one place are equal
+pub same_place : (names : List (List ℕ)) (a b : List ℕ) → has_name names a ≡ true → has_name names b ≡ true → place_of names a ≡ place_of names b → bytes_eq b a ≡ true
+same_place names a b here there same =
     let equal : b ≡ a = name_at names b there ∙ ap (λ p. get_or names p []) (sym same) ∙ sym (name_at names a here) in
     rw equal (nat_list_eq_equiv.refl a)
 
@@ -135,7 +136,7 @@ all_different names terminals sound = λ i j d before lt same.
     let test : TerminalDraft → Bool = λ earlier. bytes_eq other.cavity earlier.cavity in
     let hit : test (get_or (take j terminals) i no_terminal) ≡ true =
     ap test (get_or-take j terminals i no_terminal before)
-    ∙ same_cavity names one.cavity other.cavity (sound.there i no_terminal in') (sound.there j no_terminal jn) places in
+    ∙ same_place names one.cavity other.cavity (sound.there i no_terminal in') (sound.there j no_terminal jn) places in
     let early : i < length (take j terminals) = omega (arith, length-take-le j terminals (omega (arith, jn)), before) in
     let found : list_any test (take j terminals) ≡ true = list_any_at test (take j terminals) i no_terminal early hit in
     let none : list_any test (take j terminals) ≡ false = sound.new j no_terminal jn in

@@ -1,15 +1,16 @@
-ghost use Rattle.std.specs.Prelude.{◌≡◌, ◌<◌, ◌≤◌, ◌++◌, ◌∷◌, [], length, map, IfOk, OnOk, bytes_eq};
+ghost use Rattle.std.specs.Prelude.{◌≡◌, ◌<◌, ◌≤◌, ◌++◌, ◌∷◌, [], length, map, Ok, IfOk, OnOk, bytes_eq};
 ghost use Rattle.loom_topology.specs.Topology.{with_segment};
+ghost use Rattle.loom_topology.specs.TopologyFault.{number_of_new};
 ghost use Rattle.loom_project.specs.First.{every};
 ghost use Rattle.loom_project.specs.Draft.{place_of, node_names, harness_of, pins_of};
-ghost use Rattle.loom_project.specs.Project.{placed_segment};
+ghost use Rattle.loom_project.specs.Project.{placed_nodes, placed_segment};
 ghost use Rattle.loom_project.specs.Sound.{border_check, ends_check, pin_check, segment_check, segments_check, Gives, Answers};
 
 use crate::require::{add_name, at_most, known, require};
 use crate::{NodeDraft, Of, ProjectFault, SegmentDraft};
 use loom_base::{MAX_BARS, MAX_SEGMENTS, Name, NoMemory, NodeNo, Which};
 use loom_formula::NameIndex;
-use loom_topology::{Kind, Topology};
+use loom_topology::{Kind, Topology, TopologyFault};
 use std::alloc::Global;
 
 /// Adds the segments to a topology of the nodes, or answers the first failure among them.
@@ -22,7 +23,7 @@ pub fn add_segments(
     segments: &[SegmentDraft],
 ) -> Result<(), ProjectFault>
     requires places { places.now ≡ node_names nodes.now }
-    requires nodes { length topology.old.nodes ≡ length nodes.now }
+    requires nodes { topology.old.nodes ≡ placed_nodes nodes.now }
     requires none { topology.old.segments ≡ [] }
     ensures gives { Gives result (segments_check nodes.now segments.now) }
     ensures added { OnOk result (topology.new ≡ record topology.old { segments = map (placed_segment (node_names nodes.now)) segments.now }) }
@@ -36,7 +37,7 @@ pub fn add_segments(
     Ok(())
 }
 
-/// Adds a segment whose ends have passed their checks, so that nothing but memory can be wanting.
+/// Adds a segment that keeps the rules, so that nothing but memory can be wanting.
 fn add_segment(
     topology: &mut Topology,
     from: NodeNo,
@@ -46,11 +47,14 @@ fn add_segment(
     requires from_in_range { from.0 < length topology.old.nodes }
     requires to_in_range { to.0 < length topology.old.nodes }
     requires room { length topology.old.segments < 4096 }
+    requires fits { number_of_new topology.old from.0 to.0 kind ≡ Ok (length topology.old.segments) }
     ensures { OnOk result (topology.new ≡ with_segment topology.old from.0 to.0 kind) }
 {
     match topology.add_segment(from, to, kind) {
         Ok(_) => Ok(()),
-        Err(_) => Err(NoMemory),
+        Err(TopologyFault::NoMemory) => Err(NoMemory),
+        Err(TopologyFault::EndsEqual | TopologyFault::BorderCrossed | TopologyFault::NoBorder) =>
+            unreachable!(),
     }
 }
 

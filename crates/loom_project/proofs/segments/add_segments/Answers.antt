@@ -1,7 +1,10 @@
-use Rattle.std.proofs.Common.{◌++◌, ◌∷◌, [], ap, sym, ◌∙◌}
+use Rattle.std.proofs.Common.{◌≡◌, ◌++◌, ◌∷◌, [], ap, sym, ◌∙◌}
 use Rattle.std.proofs.lemmas.Result.{err_from_is_err_and}
+use Rattle.loom_topology.specs.Topology.{TopologyView}
+use Rattle.loom_project.specs.Project.{placed_nodes}
 use Rattle.loom_project.specs.Sound.{segments_check}
 use Rattle.loom_project.proofs.EachLemmas.{list_stops, each_next, map_next}
+use Rattle.loom_project.proofs.SegmentLemmas.{segment_fits}
 use Rattle.loom_project.proofs.TopologyLemmas.{segment_added}
 use Rattle.loom_project.proofs.segments.add_segments.Goals as goal
 
@@ -20,3 +23,9 @@ loop-segment-preserved c = record {
   passed = each_next _ _ _ _ c.segment-item.is c.loop-segment-test.true c.loop-segment.invariant.passed
       (rw (← c.loop-segment.invariant.taken) c.in_ok-from.ensures.gives);
 }
+
+pub add_segment-requires-clause-fits : goal.add_segment-requires-clause-fits
+add_segment-requires-clause-fits c =
+    let nodes : c.loop-segment.topology.nodes ≡ placed_nodes c.args.nodes.now =
+    ap (λ (t : TopologyView). t.nodes) c.loop-segment.invariant.topology ∙ c.requires.nodes in
+    rw (c.in_ok-from.ensures.from, c.in_ok-from.ensures.to) (segment_fits c.args.nodes.now c.loop-segment.topology nodes _ c.segment-item.result c.in_ok-from.ensures.gives)
