@@ -1,12 +1,12 @@
 -- Conditions that stand in a list of rows: on which options they depend, and that a number fixes a value and a value a number.
-use Rattle.std.proofs.Common.{◌≡◌, ◌≢◌, ℕ, zero, suc, ◌+◌, ◌-◌, ◌<◌, ◌≤◌, ◌⊎◌, inl, inr, Bool, true, false, cond, List, [], ◌∷◌, ◌++◌, length, Option, Some, None, slice_get, refl, sym, ap, subst, ◌∙◌, arith, ltb, eqb, nat_lt, if◌then◌else◌, ◌==◌}
+use Rattle.std.proofs.Common.{◌≡◌, ℕ, zero, suc, ◌+◌, ◌-◌, ◌<◌, ◌≤◌, ◌⊎◌, inl, inr, Bool, true, false, cond, List, [], ◌∷◌, ◌++◌, length, Some, slice_get, refl, sym, ap, subst, ◌∙◌, arith, if◌then◌else◌, ◌==◌}
 use Rattle.std.proofs.lemmas.Bool.{cases_eq, eq-eqb, ne_eqb, lt-ltb, le-ltb, cases_lt, false≢true, true≢false}
 use Rattle.std.proofs.lemmas.Option.{slice_get_within, same_Some}
 use Rattle.loom_base.specs.declared.positions.OptionNo.{OptionNo}
 use Rattle.loom_rows.specs.declared.cond.Cond.{Cond, Never, Always, Row'}
 use Rattle.loom_rows.specs.Condition.{Meaning, value, number_of, first_option, low_at, high_at}
 use Rattle.loom_rows.specs.Table.{Triple, IsRowAt, StandsIn}
-use Rattle.loom_rows.specs.Leftovers.{set_before, AreSame, IsLeftover}
+use Rattle.loom_rows.specs.Leftovers.{set_before, AreSame}
 
 -- conditions that no choice tells apart are one function
 pub same : {f g : Meaning} → AreSame f g → f ≡ g

@@ -1,17 +1,13 @@
 -- How many conditions have a property, counted by the rows of a table.
-use Rattle.std.proofs.Common.{◌≡◌, ◌≢◌, ℕ, zero, suc, ◌+◌, ◌-◌, ◌<◌, ◌≤◌, ◌⊎◌, inl, inr, Bool, true, false, List, [], ◌∷◌, ◌++◌, length, Option, Some, None, slice_get, refl, sym, ap, subst, ◌∙◌, arith, Result, Ok, Err, OnOk, IfOk}
+use Rattle.std.proofs.Common.{◌≡◌, ℕ, zero, suc, ◌-◌, ◌<◌, ◌≤◌, ◌⊎◌, inl, inr, List, [], ◌∷◌, length, Some, slice_get, refl, sym, ap, subst, ◌∙◌, arith}
 use Rattle.std.proofs.lemmas.Bool.{cases_lt}
-use Rattle.std.proofs.lemmas.Option.{slice_get_within, same_Some}
+use Rattle.std.proofs.lemmas.Option.{same_Some}
 use Rattle.indexmap.proofs.IndexTableLemmas.Probe.{pigeonhole}
 use Rattle.loom_rows.specs.declared.cond.Cond.{Cond, Never, Always, Row'}
-use Rattle.loom_rows.specs.declared.stop.RowsStop.{RowsStop}
-use Rattle.loom_rows.specs.declared.stop.RowsStop.TheVariants.{TooManyRows, NoMemory}
 use Rattle.loom_rows.specs.Condition.{Meaning, value, number_of}
-use Rattle.loom_rows.specs.Table.{Triple, Table, Has, IsSound}
-use Rattle.loom_rows.specs.Leftovers.{set_before, AreSame, IsOpen, IsLeftover, IsLeftoverOf, IsRowOf, AreApart, AreExactly, AreMoreThan, IsIn, Gains, IsNeeded, StandsFor, Works}
-use Rattle.loom_rows.specs.Outcome.{IsAnswer, Lacks, Outcome}
-use Rattle.loom_rows.proofs.Conditions.{same, same_value, same_number, number-below, leftover-stands}
-use Rattle.loom_rows.proofs.Outcomes.{keeps, gains-weaken}
+use Rattle.loom_rows.specs.Table.{Table, Has, IsSound}
+use Rattle.loom_rows.specs.Leftovers.{AreSame, IsOpen, IsRowOf, AreApart, AreExactly, AreMoreThan, IsIn, StandsFor}
+use Rattle.loom_rows.proofs.Conditions.{same, same_value, same_number, number-below}
 
 -- ---- lists by index
 

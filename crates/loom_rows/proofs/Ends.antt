@@ -1,7 +1,6 @@
 -- Two conditions whose numbers alone show how they join.
-use Rattle.std.proofs.Common.{◌≡◌, ℕ, ◌≤◌, ◌⊎◌, inl, inr, Bool, true, false, ◌&&◌, ◌||◌, not, min, refl, sym, ap, ◌∙◌, arith}
-use Rattle.loom_rows.specs.declared.cond.Cond.{Cond, Never, Always, Row'}
-use Rattle.loom_rows.specs.declared.op.Op.{Op}
+use Rattle.std.proofs.Common.{◌≡◌, ℕ, ◌⊎◌, inl, inr, Bool, true, false, ◌&&◌, ◌||◌, min, refl, sym, ap, ◌∙◌, arith}
+use Rattle.loom_rows.specs.declared.cond.Cond.{Cond, Never, Always}
 use Rattle.loom_rows.specs.declared.op.Op.TheVariants.{And, Or, Differ}
 use Rattle.loom_rows.specs.Condition.{Meaning, value, number_of, first_option}
 use Rattle.loom_rows.specs.Table.{Table, Has}

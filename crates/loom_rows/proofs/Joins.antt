@@ -1,5 +1,5 @@
 -- Two conditions joined part by part.
-use Rattle.std.proofs.Common.{◌≡◌, ℕ, ◌-◌, ◌<◌, ◌≤◌, ◌⊎◌, inl, inr, Bool, true, false, cond, ◌&&◌, eqb, Option, Some, None, refl, sym, ap, subst, ◌∙◌, arith, min, Result, Ok, Err}
+use Rattle.std.proofs.Common.{◌≡◌, ℕ, ◌-◌, ◌<◌, ◌≤◌, ◌⊎◌, inl, inr, true, cond, eqb, Some, sym, ap, subst, ◌∙◌, arith, min, Result, Ok, Err}
 use Rattle.std.proofs.lemmas.Bool.{eqb-true, and_parts, cases_Bool}
 use Rattle.std.proofs.lemmas.Option.{same_Some}
 use Rattle.std.specs.HashMap.{HashMap, get, Updates}
@@ -8,7 +8,7 @@ use Rattle.loom_rows.specs.declared.op.Op.{Op}
 use Rattle.loom_rows.specs.declared.stop.RowsStop.{RowsStop}
 use Rattle.loom_rows.specs.Condition.{Meaning, value, number_of, first_option, low_at, high_at}
 use Rattle.loom_rows.specs.Table.{Table, Has}
-use Rattle.loom_rows.specs.Leftovers.{AreSame, IsLeftover, Gains}
+use Rattle.loom_rows.specs.Leftovers.{IsLeftover, Gains}
 use Rattle.loom_rows.specs.Outcome.{joins, joined, branch, IsAnswer, Outcome, IsNoted, IsMemo, ArePartsOf, pair_eq}
 use Rattle.loom_rows.proofs.Conditions.{same, first_option-lt, low_at-stands, high_at-stands, low_at-rises, high_at-rises, same_value, same_first_option}
 use Rattle.loom_rows.proofs.Outcomes.{leftover-low, leftover-high, joined-split, gains-weaken, gains-trans, keeps, answer-keeps, leftover-trans, outcome-stop, outcome-after}

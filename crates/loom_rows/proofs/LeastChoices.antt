@@ -1,15 +1,15 @@
 -- The least choice for two conditions, from the least choices for their parts at an option.
-use Rattle.std.proofs.Common.{◌≡◌, ◌≢◌, ℕ, zero, suc, ◌+◌, ◌-◌, ◌<◌, ◌≤◌, ◌⊎◌, inl, inr, Bool, true, false, cond, ◌&&◌, eqb, List, length, refl, sym, ap, subst, ◌∙◌, arith, if◌then◌else◌, IsTrue, slice_set, get_or, min, Some, None}
+use Rattle.std.proofs.Common.{◌≡◌, ◌≢◌, ℕ, ◌+◌, ◌<◌, ◌⊎◌, inl, inr, Bool, true, false, cond, ◌&&◌, List, length, refl, sym, ap, subst, ◌∙◌, arith, IsTrue, slice_set, get_or}
 use Rattle.std.specs.HashSet.{HashSet, contains, Updates}
 use Rattle.std.proofs.lemmas.List.{get_or-set_same, get_or-set_other}
-use Rattle.std.proofs.lemmas.Bool.{cases_Bool, cases_lt, cases_order, cases_eq, true≢false, eq-eqb, ne_eqb}
-use Rattle.loom_formula.specs.Choice.{choice_at, IsBefore, IsLeastChoice}
-use Rattle.loom_rows.specs.declared.cond.Cond.{Cond, Never, Always, Row'}
+use Rattle.std.proofs.lemmas.Bool.{cases_Bool, cases_lt, cases_order, true≢false}
+use Rattle.loom_formula.specs.Choice.{choice_at, IsBefore}
+use Rattle.loom_rows.specs.declared.cond.Cond.{Cond, Never}
 use Rattle.loom_rows.specs.declared.op.Op.TheVariants.{And}
-use Rattle.loom_rows.specs.Condition.{Meaning, value, number_of, first_option, both}
+use Rattle.loom_rows.specs.Condition.{Meaning, value, number_of, both}
 use Rattle.loom_rows.specs.Table.{Table, Has}
 use Rattle.loom_rows.specs.Leftovers.{set_before}
-use Rattle.loom_rows.specs.Outcome.{joined, pair_eq, ArePartsOf}
+use Rattle.loom_rows.specs.Outcome.{pair_eq, ArePartsOf}
 use Rattle.loom_rows.specs.Search.{IsClear, IsNever, IsFoundFrom, IsFailed, AreFailed}
 use Rattle.loom_rows.proofs.Conditions.{AgreeFrom, set_before-in, set_before-past, value-from, same_value, number-end}
 use Rattle.loom_rows.proofs.Joins.{first_of, pair_eq-true}

@@ -1,15 +1,14 @@
 -- A condition is found again, or made of its two parts.
-use Rattle.std.proofs.Common.{◌≡◌, ◌≢◌, ℕ, zero, suc, ◌+◌, ◌-◌, ◌<◌, ◌≤◌, ◌⊎◌, inl, inr, Bool, true, false, cond, List, [], ◌∷◌, ◌++◌, length, Option, Some, None, slice_get, refl, sym, ap, subst, ◌∙◌, arith, if◌then◌else◌, Result, Ok, Err, length-append}
-use Rattle.std.proofs.lemmas.Bool.{cases_eq, cases_lt}
-use Rattle.std.proofs.lemmas.Option.{slice_get_within, same_Some}
+use Rattle.std.proofs.Common.{◌≡◌, ◌≢◌, ℕ, zero, suc, ◌+◌, ◌-◌, ◌<◌, ◌≤◌, ◌⊎◌, inl, inr, Bool, true, false, cond, List, [], ◌∷◌, ◌++◌, length, Some, slice_get, refl, sym, ap, subst, ◌∙◌, arith, Ok, Err, length-append}
+use Rattle.std.proofs.lemmas.Bool.{cases_lt}
+use Rattle.std.proofs.lemmas.Option.{same_Some}
 use Rattle.loom_rows.specs.declared.cond.Cond.{Cond, Never, Always, Row'}
-use Rattle.loom_rows.specs.declared.stop.RowsStop.{RowsStop}
-use Rattle.loom_rows.specs.declared.stop.RowsStop.TheVariants.{TooManyRows, NoMemory}
+use Rattle.loom_rows.specs.declared.stop.RowsStop.TheVariants.{TooManyRows}
 use Rattle.loom_rows.specs.Condition.{Meaning, value, number_of, first_option, low_at, high_at}
-use Rattle.loom_rows.specs.Table.{Triple, Table, IsRowAt, StandsIn, Has, IsSound}
-use Rattle.loom_rows.specs.Leftovers.{set_before, AreSame, IsOpen, IsLeftover, IsIn, Gains}
-use Rattle.loom_rows.specs.Outcome.{branch, IsAnswer, Lacks, Outcome, IsRowWith}
-use Rattle.loom_rows.proofs.Conditions.{same, AgreeFrom, set_before-in, set_before-past, cond_same, value-from, first_option-le, low_at-value, high_at-value, low_at-stands, high_at-stands, cases_at, stands-append, stands-old, same_value, same_number, number-below, first_option-from, slice_get-append_left}
+use Rattle.loom_rows.specs.Table.{Triple, Table, Has, IsSound}
+use Rattle.loom_rows.specs.Leftovers.{set_before, AreSame, IsOpen, IsLeftover, IsIn}
+use Rattle.loom_rows.specs.Outcome.{branch, IsAnswer, Outcome, IsRowWith}
+use Rattle.loom_rows.proofs.Conditions.{same, AgreeFrom, set_before-in, set_before-past, cond_same, value-from, first_option-le, low_at-value, high_at-value, low_at-stands, high_at-stands, cases_at, stands-append, stands-old, same_value, same_number, number-below, first_option-from}
 use Rattle.loom_rows.proofs.Outcomes.{leftover-self, gains-none}
 
 pub slice_get-append_last : {A : Type 0} (xs : List A) (y : A) (i : ℕ) → i ≡ length xs → slice_get (xs ++ y ∷ []) i ≡ Some y

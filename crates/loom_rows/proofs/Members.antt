@@ -1,6 +1,6 @@
 -- The members of a formula, worked out one after another.
-use Rattle.std.proofs.Common.{◌≡◌, ℕ, zero, suc, ◌+◌, ◌<◌, ◌≤◌, Bool, true, false, cond, not, ◌&&◌, ◌||◌, ◌==◌, eqb, List, [], ◌∷◌, ◌++◌, map, length, drop, get_or, refl, sym, ap, subst, ◌∙◌, arith, Result, Ok, Err, append_assoc, add-one}
-use Rattle.std.specs.List.{list_all, list_any, count_by}
+use Rattle.std.proofs.Common.{◌≡◌, ℕ, ◌+◌, ◌<◌, ◌≤◌, Bool, true, false, cond, not, ◌&&◌, ◌||◌, ◌==◌, List, [], ◌∷◌, ◌++◌, map, length, drop, get_or, refl, sym, ap, ◌∙◌, arith, Ok, Err, append_assoc, add-one}
+use Rattle.std.specs.List.{count_by}
 use Rattle.std.proofs.Math.Seq.{drop-cons}
 use Rattle.std.proofs.Math.ListN.{drop_of_length-le}
 use Rattle.std.proofs.lemmas.List.Sums.{sum_by-cons}
@@ -9,12 +9,12 @@ use Rattle.loom_formula.specs.declared.formula.Formula.{Formula}
 use Rattle.loom_formula.specs.Formula.{holds_of}
 use Rattle.loom_rows.specs.declared.cond.Cond.{Cond, Never, Always}
 use Rattle.loom_rows.specs.declared.stop.RowsStop.{RowsStop}
-use Rattle.loom_rows.specs.Condition.{Meaning, value, both, either, negation}
+use Rattle.loom_rows.specs.Condition.{Meaning, value}
 use Rattle.loom_rows.specs.Table.{Table, Has, IsSound}
 use Rattle.loom_rows.specs.Leftovers.{AreSame, Works}
 use Rattle.loom_rows.specs.Formulas.{Work, never, always, all_work, any_work, one_work, work_of, meaning_of, all_hold, any_holds, one_holds, one_worked, one_next, none_next}
 use Rattle.loom_rows.proofs.Conditions.{same}
-use Rattle.loom_rows.proofs.Progress.{Progress, Folding, IsNext, progress-none, fold-stop, fold-stop_join, fold-next, fold-done}
+use Rattle.loom_rows.proofs.Progress.{Folding, progress-none, fold-stop, fold-stop_join, fold-next, fold-done}
 
 -- the members from the k-th on begin with the k-th
 drop-member : (members : List Formula) (k : ℕ) (m : Formula) → k < length members → m ≡ get_or members k m → drop k members ≡ m ∷ drop (k + 1) members

@@ -1,16 +1,15 @@
 -- How the outcome of a call follows from those of the calls that it makes.
-use Rattle.std.proofs.Common.{◌≡◌, ◌≢◌, ℕ, zero, suc, ◌+◌, ◌-◌, ◌<◌, ◌≤◌, ◌⊎◌, inl, inr, Bool, true, false, cond, List, [], ◌∷◌, ◌++◌, length, Option, Some, None, slice_get, refl, sym, ap, subst, ◌∙◌, arith, nat_lt, if◌then◌else◌, min, max, Result, Ok, Err, IfOk, append_assoc, append-nil}
-use Rattle.std.proofs.lemmas.Bool.{cases_eq, cases_lt, false≢true, true≢false}
-use Rattle.std.proofs.lemmas.Option.{slice_get_within, same_Some}
-use Rattle.loom_rows.specs.declared.cond.Cond.{Cond, Never, Always, Row'}
+use Rattle.std.proofs.Common.{◌≡◌, ℕ, ◌+◌, ◌<◌, ◌≤◌, inl, inr, Bool, true, false, cond, List, [], ◌++◌, refl, sym, ap, subst, ◌∙◌, arith, max, Result, Ok, Err, append_assoc, append-nil}
+use Rattle.std.proofs.lemmas.Bool.{cases_lt}
+use Rattle.loom_rows.specs.declared.cond.Cond.{Cond}
 use Rattle.loom_rows.specs.declared.op.Op.{Op}
 use Rattle.loom_rows.specs.declared.stop.RowsStop.{RowsStop}
-use Rattle.loom_rows.specs.declared.stop.RowsStop.TheVariants.{TooManyRows, NoMemory}
-use Rattle.loom_rows.specs.Condition.{Meaning, value, number_of, first_option, low_at, high_at}
-use Rattle.loom_rows.specs.Table.{Triple, Table, IsRowAt, StandsIn, Has, IsSound}
-use Rattle.loom_rows.specs.Leftovers.{set_before, AreSame, IsOpen, IsLeftover, IsIn, Gains}
-use Rattle.loom_rows.specs.Outcome.{joins, joined, branch, IsAnswer, Lacks, Outcome, IsNoted}
-use Rattle.loom_rows.proofs.Conditions.{same, AgreeFrom, set_before-in, set_before-past, cond_same, value-split, low_at-value, high_at-value, stands-append, stands-old, same_value, same_number, number-below, same_first_option, first_option-from}
+use Rattle.loom_rows.specs.declared.stop.RowsStop.TheVariants.{NoMemory}
+use Rattle.loom_rows.specs.Condition.{Meaning, value, first_option, low_at, high_at}
+use Rattle.loom_rows.specs.Table.{Triple, Table, StandsIn, Has, IsSound}
+use Rattle.loom_rows.specs.Leftovers.{set_before, IsLeftover, Gains}
+use Rattle.loom_rows.specs.Outcome.{joins, joined, IsAnswer, Outcome}
+use Rattle.loom_rows.proofs.Conditions.{set_before-in, set_before-past, value-split, low_at-value, high_at-value, stands-append}
 
 -- ---- leftovers
 

@@ -1,21 +1,20 @@
 -- The printed list grows by the rows of one condition after another.
-use Rattle.std.proofs.Common.{◌≡◌, ◌≢◌, ℕ, zero, suc, ◌+◌, ◌-◌, ◌<◌, ◌≤◌, ◌⊎◌, inl, inr, Bool, true, false, cond, List, [], ◌∷◌, ◌++◌, map, length, Option, Some, None, slice_get, refl, sym, ap, subst, ◌∙◌, arith, eqb, ◌==◌, if◌then◌else◌, append_assoc, append-nil, length-append, nat_eq, Bor}
+use Rattle.std.proofs.Common.{◌≡◌, ◌≢◌, ℕ, zero, suc, ◌+◌, ◌-◌, ◌<◌, ◌≤◌, ◌⊎◌, inl, inr, Bool, cond, List, [], ◌∷◌, ◌++◌, map, length, Option, Some, None, slice_get, refl, sym, ap, subst, ◌∙◌, arith, eqb, append_assoc, append-nil, length-append, Bor}
 use lib.ListN.{length-map}
-use Rattle.std.specs.HashMap.{HashMap, get, Updates}
-use Rattle.std.proofs.lemmas.Bool.{cases_eq, cases_lt, cases_Bool, eq-eqb, ne_eqb, eqb-true, lt-ltb, le-ltb}
+use Rattle.std.proofs.lemmas.Bool.{cases_eq, cases_lt, eq-eqb, ne_eqb}
 use Rattle.std.proofs.lemmas.Option.{slice_get_within, same_Some}
 use Rattle.loom_formula.specs.declared.row_list.Row.{Row}
-use Rattle.loom_formula.specs.RowList.{AreBelow, row_at, value_of}
-use Rattle.loom_formula.proofs.Walks.{row_at-from_2, row_at-append, value_of-end, value_of-append}
+use Rattle.loom_formula.specs.RowList.{AreBelow, row_at}
+use Rattle.loom_formula.proofs.Walks.{row_at-append, value_of-end, value_of-append}
 use Rattle.loom_base.specs.declared.positions.OptionNo.{OptionNo}
 use Rattle.loom_rows.specs.declared.cond.Cond.{Cond, Never, Always, Row'}
 use Rattle.loom_rows.specs.Condition.{Meaning, value, number_of, first_option}
-use Rattle.loom_rows.specs.Table.{Triple, Table, Has, IsSound}
+use Rattle.loom_rows.specs.Table.{Table, Has, IsSound}
 use Rattle.loom_rows.specs.Leftovers.{AreSame}
 use Rattle.loom_rows.specs.RowLists.{meaning_at, IsReduced, AreOptionsBelow}
 use Rattle.loom_rows.specs.Printed.{Walks, has_number, takes, WalksAll, IsPrinted}
-use Rattle.loom_rows.specs.Printing.{Shows, IsShown, IsOfRow, IsPrinting, IsPrintStep, known_by, AreHad}
-use Rattle.loom_rows.proofs.Conditions.{same_value, same_first_option, number-below, first_option-lt, slice_get-append_left}
+use Rattle.loom_rows.specs.Printing.{Shows, IsShown, IsOfRow, IsPrinting, IsPrintStep, AreHad}
+use Rattle.loom_rows.proofs.Conditions.{same_value, first_option-lt}
 use Rattle.loom_rows.proofs.Made.{slice_get-append_cases, slice_get-append_last}
 use Rattle.loom_rows.proofs.TakeIn.{row-at, at-row, below-none, meaning-row}
 use Rattle.loom_rows.proofs.Counted.{element, pigeons}

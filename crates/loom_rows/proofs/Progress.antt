@@ -1,11 +1,11 @@
 -- A call that works conditions out in several steps.
-use Rattle.std.proofs.Common.{◌≡◌, ℕ, ◌≤◌, ◌⊎◌, inl, inr, Bool, true, false, ◌||◌, List, [], ◌∷◌, ◌++◌, length, refl, sym, ap, subst, ◌∙◌, arith, Result, Ok, Err, OnOk, append_assoc, append-nil}
+use Rattle.std.proofs.Common.{◌≡◌, ℕ, inl, inr, ◌||◌, List, [], ◌∷◌, ◌++◌, sym, ap, subst, ◌∙◌, Result, Ok, Err, append_assoc, append-nil}
 use Rattle.loom_rows.specs.declared.cond.Cond.{Cond}
 use Rattle.loom_rows.specs.declared.stop.RowsStop.{RowsStop}
 use Rattle.loom_rows.specs.declared.stop.RowsStop.TheVariants.{TooManyRows, NoMemory}
 use Rattle.loom_rows.specs.Condition.{Meaning, value, both, either, negation}
-use Rattle.loom_rows.specs.Table.{Table, Has, IsSound}
-use Rattle.loom_rows.specs.Leftovers.{AreSame, IsOpen, IsLeftover, IsLeftoverOf, IsRowOf, AreMoreThan, IsIn, Gains, IsNeeded, Works}
+use Rattle.loom_rows.specs.Table.{Table, IsSound}
+use Rattle.loom_rows.specs.Leftovers.{AreSame, IsLeftoverOf, IsRowOf, AreMoreThan, IsIn, Gains, IsNeeded, Works}
 use Rattle.loom_rows.specs.Formulas.{Work, one_worked, one_next, none_next}
 use Rattle.loom_rows.proofs.Conditions.{same}
 use Rattle.loom_rows.proofs.Outcomes.{keeps, gains-none, gains-weaken, gains-trans}

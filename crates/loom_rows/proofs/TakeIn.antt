@@ -1,18 +1,17 @@
 -- The rows of a reduced list, taken in one after another.
-use Rattle.std.proofs.Common.{◌≡◌, ◌≢◌, ℕ, zero, suc, ◌+◌, ◌-◌, ◌<◌, ◌≤◌, ◌⊎◌, inl, inr, Bool, true, false, cond, List, [], ◌∷◌, ◌++◌, map, length, get_or, Option, Some, None, slice_get, refl, sym, ap, subst, ◌∙◌, arith, ltb, eqb, ◌==◌, if◌then◌else◌, Result, Ok, Err, append_assoc, append-nil, add-one, length-append, nat_lt}
-use Rattle.std.specs.List.{range_with_len}
+use Rattle.std.proofs.Common.{◌≡◌, ℕ, suc, ◌+◌, ◌-◌, ◌<◌, ◌≤◌, inl, inr, Bool, true, false, cond, List, [], ◌∷◌, ◌++◌, length, get_or, Option, Some, None, slice_get, refl, sym, ap, subst, ◌∙◌, arith, ◌==◌, if◌then◌else◌, Result, Ok, Err, append_assoc, append-nil, length-append}
 use Rattle.std.specs.Option.{option_map}
-use Rattle.std.proofs.lemmas.Bool.{cases_eq, cases_lt, cases_Bool, eq-eqb, ne_eqb, lt-ltb, le-ltb}
+use Rattle.std.proofs.lemmas.Bool.{cases_eq, eq-eqb, ne_eqb, lt-ltb}
 use Rattle.std.proofs.lemmas.Option.{slice_get-get_or, slice_get_within, same_Some}
 use Rattle.loom_formula.specs.declared.row_list.Row.{Row}
-use Rattle.loom_formula.specs.RowList.{AreBelow, row_at, next_of, value_of}
+use Rattle.loom_formula.specs.RowList.{AreBelow, row_at, value_of}
 use Rattle.loom_formula.proofs.Walks.{row_at-from_2, value_of-row, value_of-end}
 use Rattle.loom_rows.specs.declared.cond.Cond.{Cond, Never, Always}
 use Rattle.loom_rows.specs.declared.stop.RowsStop.{RowsStop}
 use Rattle.loom_rows.specs.declared.stop.RowsStop.TheVariants.{NoMemory}
 use Rattle.loom_rows.specs.Condition.{Meaning, value, first_option}
 use Rattle.loom_rows.specs.Table.{Table, Has, IsSound}
-use Rattle.loom_rows.specs.Leftovers.{AreSame, IsLeftover, Works}
+use Rattle.loom_rows.specs.Leftovers.{AreSame, Works}
 use Rattle.loom_rows.specs.Outcome.{Outcome, branch}
 use Rattle.loom_rows.specs.RowLists.{meaning_at, meanings_from, meanings_of, IsReduced, AreOptionsBelow, AreConditionsOf}
 use Rattle.loom_rows.specs.Taken.{cond_at}

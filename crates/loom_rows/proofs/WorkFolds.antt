@@ -1,21 +1,20 @@
 -- What is worked out for a formula, at each variant.
-use Rattle.std.proofs.Common.{◌≡◌, ℕ, inl, inr, Bool, true, false, List, [], ◌∷◌, ◌++◌, map, refl, sym, ap, subst, ◌∙◌, Result, Ok, Err, append-nil}
-use Rattle.std.specs.List.{list_all}
+use Rattle.std.proofs.Common.{◌≡◌, ℕ, inl, inr, List, [], ◌∷◌, ◌++◌, sym, ap, subst, ◌∙◌, Result, Ok, Err, append-nil}
 use Rattle.loom_formula.specs.declared.formula.Formula.{Formula}
-use Rattle.loom_formula.specs.declared.formula.Formula.TheVariants.{Always, Never, Is, Not, And, Or, One, rolls-Always, rolls-Never, rolls-Is, rolls-Not, rolls-And, rolls-Or, rolls-One}
+use Rattle.loom_formula.specs.declared.formula.Formula.TheVariants.{Always, Never, Is, Not, And, Or, One, rolls-Always, rolls-Never, rolls-Is, rolls-Not}
 use Rattle.loom_formula.specs.declared.formula.Formula.TheOpen.{Formula-F}
-use Rattle.loom_formula.specs.declared.formula.Formula.TheFolds.{fold-Members, fold-roll-Formula, fold_out-Members}
+use Rattle.loom_formula.specs.declared.formula.Formula.TheFolds.{fold-roll-Formula}
 use Rattle.loom_formula.specs.declared.formula.Members.{Members}
 use Rattle.loom_formula.specs.Formula.{members_of, is_chosen}
 use Rattle.loom_formula.proofs.Folds.{holds_where-And, holds_where-Or, holds_where-One}
 use Rattle.loom_rows.specs.declared.stop.RowsStop.{RowsStop}
 use Rattle.loom_rows.specs.Condition.{Meaning, negation}
-use Rattle.loom_rows.specs.Table.{Table, Has, IsSound}
-use Rattle.loom_rows.specs.Leftovers.{AreSame, IsOpen, IsLeftoverOf, IsRowOf, Works}
+use Rattle.loom_rows.specs.Table.{Table, IsSound}
+use Rattle.loom_rows.specs.Leftovers.{AreSame, IsRowOf, Works}
 use Rattle.loom_rows.specs.Formulas.{Work, never, always, work_step, work_of, meaning_of, all_hold, any_holds, one_holds}
 use Rattle.loom_rows.proofs.Conditions.{same}
 use Rattle.loom_rows.proofs.Outcomes.{gains-none}
-use Rattle.loom_rows.proofs.Progress.{Progress, progress-none, progress-step, progress-first, progress-done, progress-stop}
+use Rattle.loom_rows.proofs.Progress.{progress-none, progress-step, progress-first, progress-done, progress-stop}
 
 module _ (options : List (List ℕ)) where
   pub work_of-Always : work_of options Always ≡ record { worked = []; meaning = always }

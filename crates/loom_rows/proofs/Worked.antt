@@ -1,13 +1,12 @@
 -- What a call works out, from the outcome of its steps; and what a table stands for after it.
-use Rattle.std.proofs.Common.{◌≡◌, ℕ, ◌<◌, ◌≤◌, ◌-◌, ◌⊎◌, inl, inr, Bool, true, false, cond, not, List, [], ◌∷◌, ◌++◌, length, Option, Some, None, slice_get, refl, sym, ap, subst, ◌∙◌, arith, Result, Ok, Err, OnOk, IfOk}
+use Rattle.std.proofs.Common.{◌≡◌, ℕ, ◌-◌, ◌⊎◌, inl, inr, Bool, true, false, cond, List, [], ◌∷◌, ◌++◌, length, slice_get, refl, sym, ap, subst, ◌∙◌, arith, Result, Ok, Err, OnOk, IfOk}
 use Rattle.loom_rows.specs.declared.cond.Cond.{Cond, Never, Always, Row'}
-use Rattle.loom_rows.specs.declared.op.Op.TheVariants.{Differ}
 use Rattle.loom_rows.specs.declared.stop.RowsStop.{RowsStop}
 use Rattle.loom_rows.specs.declared.stop.RowsStop.TheVariants.{TooManyRows}
-use Rattle.loom_rows.specs.Condition.{Meaning, value, chosen, negation}
+use Rattle.loom_rows.specs.Condition.{Meaning, value, chosen}
 use Rattle.loom_rows.specs.Table.{Table, Has, IsSound}
 use Rattle.loom_rows.specs.Leftovers.{AreSame, IsOpen, IsLeftover, IsLeftoverOf, IsRowOf, AreMoreThan, IsIn, Gains, IsNeeded, StandsFor, Works}
-use Rattle.loom_rows.specs.Outcome.{IsAnswer, Lacks, Outcome, joined, branch}
+use Rattle.loom_rows.specs.Outcome.{IsAnswer, Outcome, branch}
 use Rattle.loom_rows.proofs.Conditions.{same, leftover-stands}
 use Rattle.loom_rows.proofs.Outcomes.{keeps, gains-weaken}
 use Rattle.loom_rows.proofs.Counted.{row-open, one-more, no-more}

@@ -1,4 +1,4 @@
-use Rattle.std.specs.Prelude.{ℕ, Bool, true, false, List, [], ◌∷◌, ◌++◌, ◌==◌, count_by}
+use Rattle.std.specs.Prelude.{ℕ, true, false, List, [], ◌∷◌, ◌++◌, ◌==◌, count_by}
 use Rattle.std.specs.List.{list_all, list_any}
 use Rattle.loom_formula.specs.declared.formula.Formula.{Formula}
 use Rattle.loom_formula.specs.declared.formula.Formula.TheOpen.{Formula-F}

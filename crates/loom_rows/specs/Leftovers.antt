@@ -1,4 +1,4 @@
-use Rattle.std.specs.Prelude.{ℕ, Bool, true, false, ◌≡◌, ◌<◌, ◌≤◌, ◌++◌, nat_lt, if◌then◌else◌, List, [], ◌∷◌, length, slice_get, Some, ◌⊎◌, Result, Err, OnOk}
+use Rattle.std.specs.Prelude.{ℕ, Bool, true, false, ◌≡◌, ◌<◌, ◌++◌, nat_lt, if◌then◌else◌, List, [], ◌∷◌, length, slice_get, Some, ◌⊎◌, Result, Err, OnOk}
 use Rattle.loom_rows.specs.declared.cond.Cond.{Cond}
 use Rattle.loom_rows.specs.declared.stop.RowsStop.{RowsStop}
 use Rattle.loom_rows.specs.declared.stop.RowsStop.TheVariants.{TooManyRows}

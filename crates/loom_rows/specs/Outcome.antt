@@ -1,4 +1,4 @@
-use Rattle.std.specs.Prelude.{ℕ, Bool, true, false, if◌then◌else◌, ◌≡◌, ◌≤◌, ◌<◌, ◌&&◌, ◌||◌, not, min, length, Result, Ok, Err, IfOk, Option, Some, slice_get, ◌+◌, ◌==◌}
+use Rattle.std.specs.Prelude.{ℕ, Bool, true, false, if◌then◌else◌, ◌≡◌, ◌≤◌, ◌<◌, ◌&&◌, ◌||◌, not, min, length, Result, Err, IfOk, Some, slice_get, ◌+◌, ◌==◌}
 use Rattle.std.specs.HashMap.{HashMap, get}
 use Rattle.loom_rows.specs.declared.cond.Cond.{Cond, Never, Always, Row'}
 use Rattle.loom_rows.specs.declared.op.Op.{Op}

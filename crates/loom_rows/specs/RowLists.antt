@@ -1,7 +1,7 @@
-use Rattle.std.specs.Prelude.{ℕ, ◌≡◌, ◌≢◌, ◌<◌, ◌≤◌, ◌+◌, List, map, length, slice_get, Some}
+use Rattle.std.specs.Prelude.{ℕ, ◌≡◌, ◌≢◌, ◌<◌, ◌+◌, List, map, length, slice_get, Some}
 use Rattle.std.specs.List.{range_with_len}
 use Rattle.loom_formula.specs.declared.row_list.Row.{Row}
-use Rattle.loom_formula.specs.RowList.{AreBelow, row_at, value_of}
+use Rattle.loom_formula.specs.RowList.{row_at, value_of}
 use Rattle.loom_rows.specs.declared.cond.Cond.{Cond}
 use Rattle.loom_rows.specs.Condition.{Meaning, value}
 use Rattle.loom_rows.specs.Table.{Table, Has}

@@ -1,6 +1,6 @@
-use Rattle.std.specs.Prelude.{ℕ, Bool, true, false, ◌≡◌, ◌<◌, List}
+use Rattle.std.specs.Prelude.{ℕ, Bool, true, false, ◌≡◌, ◌<◌}
 use Rattle.std.specs.HashSet.{HashSet, contains}
-use Rattle.loom_formula.specs.Choice.{IsLeastChoice, choice_at}
+use Rattle.loom_formula.specs.Choice.{IsLeastChoice}
 use Rattle.loom_rows.specs.declared.cond.Cond.{Cond}
 use Rattle.loom_rows.specs.Condition.{Meaning, value, number_of, both}
 use Rattle.loom_rows.specs.Table.{Table, Has}

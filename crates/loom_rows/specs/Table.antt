@@ -1,6 +1,6 @@
-use Rattle.std.specs.Prelude.{ℕ, ◌≡◌, ◌≢◌, ◌<◌, ◌≤◌, ◌+◌, ◌-◌, List, length, slice_get, Option, Some}
+use Rattle.std.specs.Prelude.{ℕ, ◌≡◌, ◌≢◌, ◌<◌, ◌≤◌, ◌+◌, ◌-◌, List, length, slice_get, Some}
 use Rattle.loom_rows.specs.declared.cond.Cond.{Cond, Never, Always, Row'}
-use Rattle.loom_rows.specs.Condition.{Meaning, value, number_of, first_option}
+use Rattle.loom_rows.specs.Condition.{number_of, first_option}
 
 -- a row: its option, and the numbers of its low and its high part
 abbrev pub Triple : Type 0

@@ -13,6 +13,8 @@ mod cond;
 mod op;
 mod rows;
 mod stop;
+#[cfg(test)]
+mod tests;
 
 pub use cond::{Cond, Row};
 pub use rows::Rows;

@@ -1,5 +1,5 @@
 use Rattle.std.proofs.Common.{arith}
-use Rattle.loom_rows.proofs.Ends.{differ-never, differ-left, differ-right}
+use Rattle.loom_rows.proofs.Ends.{differ-never}
 use Rattle.loom_rows.proofs.op.differ_at_end.Goals as goal
 
 pub returns-then-first-second-clause-some : goal.returns-then-first-second-clause-some

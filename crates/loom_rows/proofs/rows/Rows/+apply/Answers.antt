@@ -1,13 +1,12 @@
 -- Each step of the join passes its outcome on.
-use Rattle.std.proofs.Common.{◌≡◌, ◌<◌, ℕ, arith, sym, ap, subst, ◌∙◌, inl, inr, min, Ok, Err, Result, Some}
+use Rattle.std.proofs.Common.{ℕ, arith, sym, ap, subst, ◌∙◌, min, Ok, Err, Result}
 use Rattle.std.proofs.lemmas.Result.{err_from_is_err_and}
 use Rattle.loom_rows.specs.declared.cond.Cond.{Cond}
 use Rattle.loom_rows.specs.declared.op.Op.{Op}
 use Rattle.loom_rows.specs.declared.stop.RowsStop.{RowsStop}
-use Rattle.loom_rows.specs.declared.stop.RowsStop.TheVariants.{NoMemory}
-use Rattle.loom_rows.specs.Condition.{value, number_of, first_option}
+use Rattle.loom_rows.specs.Condition.{value, first_option}
 use Rattle.loom_rows.specs.Table.{Table}
-use Rattle.loom_rows.specs.Outcome.{Outcome, joined, branch, IsNoted}
+use Rattle.loom_rows.specs.Outcome.{Outcome, joined, IsNoted}
 use Rattle.loom_rows.proofs.Outcomes.{outcome-found, outcome-no_memory}
 use Rattle.loom_rows.proofs.Joins.{stop-low, has-high_a, has-high_b, high-falls, stop-high, low-has, low-rises, high-rises, finish, noted-answer, noted-new, memo-insert}
 use Rattle.loom_rows.proofs.rows.Rows.+apply.Goals as goal

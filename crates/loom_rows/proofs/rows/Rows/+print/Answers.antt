@@ -1,5 +1,5 @@
 -- Each row is printed behind its parts.
-use Rattle.std.proofs.Common.{◌≡◌, ℕ, Option, Some, None, refl, sym, ap, subst, ◌∙◌, arith, length, ◌+◌, ◌∷◌, [], cond, eqb, length-append}
+use Rattle.std.proofs.Common.{◌≡◌, Some, refl, sym, ap, subst, ◌∙◌, arith, length, ◌+◌, ◌∷◌, [], cond, eqb, length-append}
 use Rattle.loom_rows.specs.Table.{Has}
 use Rattle.loom_rows.specs.declared.cond.Cond.{Cond}
 use Rattle.loom_rows.specs.Printing.{IsPrintStep, known_by}

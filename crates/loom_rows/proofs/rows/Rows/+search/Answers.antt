@@ -1,7 +1,5 @@
 -- Each pair of parts is searched in turn, the low parts first.
-use Rattle.std.proofs.Common.{◌≡◌, ◌⊎◌, ℕ, arith, sym, ap, subst, ◌∙◌, inl, inr, Ok, true, false}
-use Rattle.loom_rows.specs.Condition.{value, number_of, both}
-use Rattle.loom_rows.specs.Search.{IsNever, IsFailed}
+use Rattle.std.proofs.Common.{arith, sym, ap, ◌∙◌, inl, inr, Ok}
 use Rattle.loom_rows.proofs.LeastChoices.{never-end, never-failed, meets-low, meets-high, meets-never, failed-insert}
 use Rattle.loom_rows.proofs.rows.Rows.+search.Goals as goal
 use Rattle.loom_rows.proofs.rows.Rows.+search.Goals.{then-number-eq0-via-then-number-eq0, then-number-eq0-via-else-number-eq0+then-number-eq0-2}

@@ -1,13 +1,13 @@
 -- Each member is worked out in turn, and each formula after its parts.
-use Rattle.std.proofs.Common.{◌≡◌, ◌&&◌, ◌||◌, true, false, List, [], ◌∷◌, ◌++◌, map, length, get_or, refl, sym, ap, subst, ◌∙◌, arith, rules, Ok, Err, Result}
+use Rattle.std.proofs.Common.{◌&&◌, ◌||◌, true, false, List, [], ◌∷◌, ◌++◌, map, length, get_or, refl, sym, ap, subst, ◌∙◌, arith, Err, Result}
 use Rattle.std.proofs.lemmas.Result.{err_from_is_err_and, IfOk-weaker}
 use Rattle.loom_formula.specs.Formula.{members_of}
 use Rattle.loom_rows.specs.declared.cond.Cond.{Cond, Never, Always}
 use Rattle.loom_rows.specs.declared.stop.RowsStop.{RowsStop}
 use Rattle.loom_rows.specs.Condition.{Meaning, value, negation}
-use Rattle.loom_rows.specs.Table.{Table, IsSound}
+use Rattle.loom_rows.specs.Table.{IsSound}
 use Rattle.loom_rows.specs.Leftovers.{AreSame, Works}
-use Rattle.loom_rows.specs.Formulas.{never, always, work_of, meaning_of, all_work, any_work, one_work, all_hold, any_holds, one_holds}
+use Rattle.loom_rows.specs.Formulas.{never, always, work_of, all_work, any_work, one_work, all_hold, any_holds, one_holds}
 use Rattle.loom_rows.proofs.Members.{all_join, any_join, so_far-init, so_far-stop, so_far-has, so_far-stop_join, so_far-next, so_far-works, so_far-meaning, so_far-value, one_so_far-init, one_so_far-stop, one_so_far-has_one, one_so_far-has_none, one_so_far-stop_join, one_so_far-next, one_so_far-works, one_so_far-meaning, one_so_far-value, and_assoc, and_unit, or_assoc, or_unit}
 use Rattle.loom_rows.proofs.WorkFolds.{works-none, works-then, work_of-Always, work_of-Never, work_of-Is, work_of-Not, meaning_of-And, meaning_of-Or, meaning_of-One}
 use Rattle.loom_rows.proofs.Conditions.{same}

@@ -5,7 +5,6 @@ use Rattle.loom_rows.specs.declared.cond.Cond.{Cond}
 use Rattle.loom_rows.specs.Table.{Table, Triple, Has, IsSound}
 use Rattle.loom_rows.specs.Outcome.{Outcome, IsRowWith, branch}
 use Rattle.loom_rows.specs.Condition.{value, number_of}
-use Rattle.loom_rows.specs.Inside.{table_of}
 use Rattle.loom_rows.proofs.Made.{with_row, added, added-sound, added-has}
 use Rattle.loom_rows.proofs.Index.{IsIndexOf, table-added, kept-added}
 use Rattle.loom_rows.proofs.rows.Rows.add.Goals as goal

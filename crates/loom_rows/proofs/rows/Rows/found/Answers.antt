@@ -1,4 +1,4 @@
-use Rattle.std.proofs.Common.{◌≡◌, refl, ◌∙◌, subst, IfSome, IfNone}
+use Rattle.std.proofs.Common.{refl, ◌∙◌, subst, IfSome, IfNone}
 use Rattle.loom_rows.specs.Table.{Table}
 use Rattle.loom_rows.specs.Outcome.{IsFound, IsMissing}
 use Rattle.loom_rows.specs.Inside.{table_of}

@@ -1,4 +1,4 @@
-use Rattle.std.proofs.Common.{◌≡◌, ◌≤◌, sym, ap, subst, ◌∙◌, arith, Some, length}
+use Rattle.std.proofs.Common.{◌≤◌, sym, subst, ◌∙◌, arith, Some, length}
 use Rattle.std.proofs.lemmas.Map.Entries.{length-keys_of}
 use Rattle.loom_rows.specs.Table.{Table, IsSound}
 use Rattle.loom_rows.proofs.Outcomes.{outcome-found}

@@ -1,4 +1,4 @@
-use Rattle.std.proofs.Common.{◌≡◌, false, sym, ap, subst, ◌∙◌, ◌∷◌, []}
+use Rattle.std.proofs.Common.{false, sym, ap, subst, ◌∷◌, []}
 use Rattle.std.specs.Option.{option_map_or}
 use Rattle.loom_formula.specs.Formula.{is_chosen}
 use Rattle.loom_rows.specs.Condition.{Meaning}

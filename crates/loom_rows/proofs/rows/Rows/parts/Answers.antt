@@ -1,4 +1,4 @@
-use Rattle.std.proofs.Common.{◌≡◌, ℕ, ◌∙◌, subst, min}
+use Rattle.std.proofs.Common.{◌≡◌, ◌∙◌, subst, min}
 use Rattle.loom_rows.specs.Condition.{first_option}
 use Rattle.loom_rows.specs.Table.{Table}
 use Rattle.loom_rows.proofs.Joins.{parts-of}

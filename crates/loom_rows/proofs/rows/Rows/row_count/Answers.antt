@@ -1,8 +1,7 @@
-use Rattle.std.proofs.Common.{◌≡◌, ℕ, List, length, sym, ap, subst, ◌∙◌}
+use Rattle.std.proofs.Common.{◌≡◌, ℕ, length, sym, subst, ◌∙◌}
 use Rattle.std.proofs.lemmas.Map.Entries.{length-keys_of}
-use Rattle.loom_rows.specs.Condition.{Meaning}
 use Rattle.loom_rows.specs.Table.{Table, IsSound}
-use Rattle.loom_rows.specs.Leftovers.{AreExactly, IsRowOf, StandsFor}
+use Rattle.loom_rows.specs.Leftovers.{AreExactly, IsRowOf}
 use Rattle.loom_rows.proofs.Counted.{rows-counted}
 use Rattle.loom_rows.proofs.rows.Rows.row_count.Goals as goal
 
