@@ -37,7 +37,7 @@ at_most-holds mask v part (Some m) (Some n) passed =
       | inr more ↦ absurd (let failed = rw more at passed in cc)
     ]
 
-at_most-passes : (mask v : ℕ) (part : Part) (left right : Option ℕ) → IsAtMost left right → at_most mask v part left right ≡ Ok tt
+pub at_most-passes : (mask v : ℕ) (part : Part) (left right : Option ℕ) → IsAtMost left right → at_most mask v part left right ≡ Ok tt
 at_most-passes mask v part left None holds = refl
 at_most-passes mask v part None (Some n) holds = absurd holds
 at_most-passes mask v part (Some m) (Some n) holds = rw (le-leb m n holds) refl

@@ -2,6 +2,9 @@ pub mod Within
 pub mod FirstParts
 pub mod Checks
 pub mod OpenSegments
+pub mod Noted
+pub mod Listed
 pub mod Sides
 pub mod OneAt
 pub mod Legality
+pub mod OverWays

@@ -1,3 +1,4 @@
 pub mod First
 pub mod FirstBreak
 pub mod Lowest
+pub mod Ways

@@ -1,12 +1,14 @@
 ghost use Rattle.std.specs.Prelude.{◌≡◌, ◌↔◌, ◌+◌, ◌-◌, ◌^◌, ◌<◌, ◌≤◌, ℕ, All, IfSome, IsOk, IsTrue, Ok, OnOk, length, map};
 ghost use Rattle.loom_topology.specs.Topology.{IsSound};
 ghost use Rattle.loom_topology.specs.Table.{cell_at};
-ghost use Rattle.loom_topology.specs.Legal.{IsLegal, plus};
+ghost use Rattle.loom_topology.specs.Legal.{IsAtMost, IsLegal, plus};
 ghost use Rattle.loom_potential.specs.FirstBreak.{cell_check, first_break, is_first_part, is_one_at, leaf_check, mask_check, over_checks, split_check, split_checks};
 ghost use Rattle.loom_potential.specs.Lowest.{IsBelowEveryTree};
+ghost use Rattle.loom_potential.specs.Ways.{AreInRange, CoverOpen, HoldsOver};
 
 use crate::first_break::at_most;
 use crate::parts::{first_part, next_part};
+use crate::ways::{Way, find_ways, no_ways};
 use crate::{FirstBreak, Part};
 use loom_base::{CavityNo, NodeNo};
 use loom_topology::{Table, Topology};
@@ -26,32 +28,41 @@ pub fn legal(topology: &Topology, terminals: &[CavityNo], table: &Table) -> Resu
 {
     let nodes = topology.node_count();
     prove!(nodes == table.nodes());
+    let mut places = no_ways();
+    let count = find_ways(topology, &mut places);
+    let ways = &places[..count];
     for mask in 1..table.masks() + 1 {
-        test_mask(topology, terminals, table, mask)?;
+        test_mask(topology, terminals, ways, table, mask)?;
     }
     Ok(())
 }
 
-/// The inequalities of a mask's cells. The splits of all its cells are tested part by part beforehand, since cells of
-/// neighbouring nodes stand side by side.
+/// The inequalities of a mask's cells. Whether the ways and the splits hold at all its cells is tested beforehand: the
+/// ways are fewer than the open segments, and for the splits of one part cells stand side by side.
 fn test_mask(
     topology: &Topology,
     terminals: &[CavityNo],
+    ways: &[Way],
     table: &Table,
     mask: u32,
 ) -> Result<(), FirstBreak>
     requires few { length terminals.now ≤ 12 }
     requires in_range { All (λ c. c.0 < length topology.now.cavities) terminals.now }
+    requires cover { CoverOpen topology.now ways.now }
+    requires ways_in_range { AreInRange (length topology.now.nodes) ways.now }
     requires masks { table.now.masks ≡ 2 ^ (length terminals.now - 1) - 1 }
     requires nodes { table.now.nodes ≡ length topology.now.nodes }
     requires mask_from { 1 ≤ mask }
     requires mask_to { mask ≤ table.now.masks }
     ensures { result ≡ mask_check topology.now (map (λ c. c.0) terminals.now) (cell_at table.now) mask }
 {
+    let all_over = all_over(topology, ways, table, mask);
     let all_split = all_split(topology, table, mask);
     for node in 0..topology.node_count() {
         test_leaf(topology, terminals, table, mask, NodeNo(node))?;
-        test_segments(topology, table, mask, NodeNo(node))?;
+        if !all_over {
+            test_segments(topology, table, mask, NodeNo(node))?;
+        }
         if !all_split {
             test_splits(topology, table, mask, NodeNo(node))?;
         }
@@ -115,6 +126,48 @@ fn test_segments(
         at_most(mask, node, Part::Over(*segment), left, right)?;
     }
     Ok(())
+}
+
+/// Tells that the inequalities over all open segments hold at all cells of a mask.
+fn all_over(topology: &Topology, ways: &[Way], table: &Table, mask: u32) -> bool
+    requires nodes { table.now.nodes ≡ length topology.now.nodes }
+    requires cover { CoverOpen topology.now ways.now }
+    requires ways_in_range { AreInRange (length topology.now.nodes) ways.now }
+    requires mask_from { 1 ≤ mask }
+    requires mask_to { mask ≤ table.now.masks }
+    ensures { IsTrue result → (v : ℕ) → v < length topology.now.nodes → over_checks topology.now (cell_at table.now) mask v ≡ Ok tt }
+{
+    for way in ways {
+        if !holds_over(way, table, mask) {
+            return false;
+        }
+    }
+    true
+}
+
+/// Whether the inequalities over a way hold at both of its nodes.
+fn holds_over(way: &Way, table: &Table, mask: u32) -> bool
+    requires from { way.now.from.0 < table.now.nodes }
+    requires to { way.now.to.0 < table.now.nodes }
+    requires price { way.now.price ≤ 1000000 }
+    requires mask_from { 1 ≤ mask }
+    requires mask_to { mask ≤ table.now.masks }
+    ensures { IsTrue result ↔ HoldsOver (cell_at table.now) mask way.now }
+{
+    let from = table.cell(mask, way.from);
+    let to = table.cell(mask, way.to);
+    is_at_most(from, plus(to, way.price)) && is_at_most(to, plus(from, way.price))
+}
+
+/// Whether the left side is at most the right one.
+fn is_at_most(left: Option<u64>, right: Option<u64>) -> bool
+    ensures { IsTrue result ↔ IsAtMost left right }
+{
+    match (left, right) {
+        (_, None) => true,
+        (None, Some(_)) => false,
+        (Some(cost), Some(bound)) => cost <= bound,
+    }
 }
 
 /// The inequalities over the parts of a mask that hold its first cavity and leave a rest.

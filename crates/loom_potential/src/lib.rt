@@ -7,6 +7,7 @@ mod inequalities;
 mod parts;
 #[cfg(test)]
 mod tests;
+mod ways;
 
 pub use first_break::{FirstBreak, Part};
 pub use inequalities::legal;
