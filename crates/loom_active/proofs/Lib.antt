@@ -1,0 +1,4 @@
+pub mod FormulaWork
+pub mod FormulaSteps
+pub mod RuleStops
+pub mod OnePrinted
