@@ -1,0 +1,220 @@
+-- What the reading of bytes says of them, and of the reply that they get.
+use Rattle.std.proofs.Common.{inl, inr, map, get_or, [], ◌∷◌, bytes_eq, ◌<◌, IfOk, IfSome, ◌≡◌, ◌≢◌, ℕ, ◌≤◌, Bool, true, false, List, Option, Some, None, Result, Ok, Err, length, refl, sym, ◌∙◌, ap, subst, arith}
+use Rattle.std.specs.Cmp.Lexicographic.{bytes_decides}
+use Rattle.std.specs.Prelude.{⊤}
+use Rattle.loom_base.specs.Streams.{Takes}
+use Rattle.loom_base.proofs.StreamLemmas.{takes_known}
+use Rattle.loom_json.specs.Text.{line_of, read_json}
+use Rattle.std.specs.Option.{option_map_or}
+use Rattle.serde_json.specs.Data.{Data}
+use Rattle.loom_project.specs.declared.draft.Draft.{Draft}
+use Rattle.loom_project.specs.declared.fault.ProjectFault.{ProjectFault}
+use Rattle.loom_project.specs.Sound.{draft_check}
+use Rattle.loom_reader.specs.declared.document.Document.{Document}
+use Rattle.loom_reader.specs.declared.fault.ReadFault.{ReadFault}
+use Rattle.loom_reader.specs.declared.fault.ReadFault.TheVariants as faults
+use Rattle.loom_reader.specs.declared.fault.ReadFault.TheVariants.{NotJson}
+use Rattle.loom_reader.specs.declared.outline.Outline.{Outline}
+use Rattle.loom_reader.specs.Document.{document_of, shaped, checked, outline_at}
+use Rattle.loom_top.specs.Plannable.{IsPlannable, HasChoices, is_plain}
+use Rattle.loom_top.specs.Refusals.{IsCause, refusal_shown}
+use Rattle.loom_top.specs.Replies.{Accepts, Refuses, HasNoPlan, IsRefused, IsReply, RepliesTo}
+use Rattle.loom_top.specs.declared.refusal.Refusal.{Refusal}
+use Rattle.loom_top.specs.declared.refusal.Refusal.TheVariants as refusals
+use Rattle.loom_top.specs.declared.refusal.Refusal.TheVariants.{NotBuilt, TooLong}
+use Rattle.loom_top.specs.Run.{IsSilent}
+use Rattle.loom_top.specs.declared.status.Status.{Status}
+use Rattle.loom_top.specs.declared.status.Status.TheVariants as status
+
+abbrev pub Reading : Type 0
+Reading = Result Document ReadFault
+
+checked_is_json : (outline : Outline) (check : Result ⊤ ProjectFault) → checked outline check ≢ Err NotJson
+checked_is_json outline (Ok passed) h = absurd (cc)
+checked_is_json outline (Err failure) h = absurd (cc)
+
+-- a value that has a form to be looked at isn't refused as no JSON text
+shaped_is_json : (outline : Result Outline (List ℕ)) → shaped outline ≢ Err NotJson
+shaped_is_json (Ok outline) h = checked_is_json outline (draft_check outline.draft) h
+shaped_is_json (Err path) h = absurd (cc)
+
+abbrev pub reading_of : Option Data → Reading
+reading_of json = option_map_or (λ d. shaped (outline_at d)) json (Err NotJson)
+
+some_json : (json : Option Data) (reading : Reading) → reading ≢ Err NotJson → reading_of json ≡ reading → (d : Data) × (json ≡ Some d)
+some_json None reading other h = absurd (other (sym h))
+some_json (Some d) reading other h = (d, refl)
+
+none_json : (json : Option Data) → reading_of json ≡ Err NotJson → json ≡ None
+none_json None h = refl
+none_json (Some d) h = absurd (shaped_is_json (outline_at d) h)
+
+-- bytes that are read, or fail later, are a JSON text
+json_of : (input : List ℕ) (reading : Reading) → reading ≢ Err NotJson → document_of input ≡ reading → (d : Data) × (read_json input ≡ Some d)
+unfolding document_of
+json_of input reading other h = some_json (read_json input) reading other h
+
+-- bytes that fail so are none
+no_json_of : (input : List ℕ) → document_of input ≡ Err NotJson → read_json input ≡ None
+unfolding document_of
+no_json_of input h = none_json (read_json input) h
+
+abbrev pub or_else : Document → Reading → Document
+or_else other (Ok document) = document
+or_else other (Err fault) = other
+
+same_document : (a b : Document) (reading : Reading) → reading ≡ Ok a → reading ≡ Ok b → a ≡ b
+same_document a b reading h k = ap (or_else a) (sym h ∙ k)
+
+document_is_no_fault : (document : Document) (fault : ReadFault) → Ok document ≢ Err fault
+document_is_no_fault document fault h = absurd (cc)
+
+-- a document's answer or refusal replies to its bytes
+pub reply_of_document : (input line : List ℕ) (document : Document) (is_done : Bool) → length input ≤ 67108864 → document_of input ≡ Ok document
+    → RepliesTo document is_done line → IsReply input is_done line
+reply_of_document input line document true short reads answer = record {
+  draft = document.project;
+  accepted = record { short = short; document = document; reads = reads; plannable = answer.plannable; project = refl; choices = answer.choices };
+  plan = answer.plan;
+  planned = answer.planned;
+  line_is = answer.line_is;
+}
+reply_of_document input line document false short reads refusal = record {
+  refusal = refusal.refusal;
+  refused = Refuses.not_planned short document reads refusal.refusal refusal.refused;
+  line_is = refusal.line_is;
+}
+
+-- what a refusal's line replies to
+pub reply_refuses : (input line : List ℕ) (is_done : Bool) (refusal : Refusal) → Refuses input refusal
+    → (is_done ≡ false) × (line ≡ line_of (refusal_shown refusal)) → IsReply input is_done line
+reply_refuses input line is_done refusal refused (not_done, line_is) =
+    let declines : IsReply input false line = record { refusal = refusal; refused = refused; line_is = line_is } in
+    subst (λ (b : Bool). IsReply input b line) (sym not_done) declines
+
+-- a document with a plan isn't refused
+not_refused : (document : Document) → IsPlannable document → HasChoices document.project → (refusal : Refusal) → IsRefused document refusal → ⊥
+not_refused document plannable choices NotBuilt unplannable = unplannable plannable
+not_refused document plannable choices (refusals.Limit which count) (form, (joined, is_rows, counted, many)) = choices.few_rows many
+not_refused document plannable choices refusals.NoChoice (form, (joined, none, few)) = none choices.some_choice.0 choices.some_choice.1
+not_refused document plannable choices TooLong refused = refused.1
+not_refused document plannable choices refusals.NotJson refused = refused.1
+not_refused document plannable choices (refusals.WrongShape path) refused = refused.1
+not_refused document plannable choices (refusals.Project fault) refused = refused.1
+
+-- an input that is accepted isn't refused
+accepted_not_refused : (input : List ℕ) (draft : Draft) (refusal : Refusal) → Accepts input draft → Refuses input refusal → ⊥
+accepted_not_refused input draft refusal accepted (Refuses.too_long long) = absurd (omega (arith, long, accepted.short))
+accepted_not_refused input draft refusal accepted (Refuses.not_json short none) =
+    let json = json_of input (Ok accepted.document) (document_is_no_fault accepted.document NotJson) accepted.reads in
+    absurd (cc)
+accepted_not_refused input draft refusal accepted (Refuses.not_shaped short path fails) =
+    document_is_no_fault accepted.document (faults.WrongShape path) (sym accepted.reads ∙ fails)
+accepted_not_refused input draft refusal accepted (Refuses.not_sound short fault fails) =
+    document_is_no_fault accepted.document (faults.Project fault) (sym accepted.reads ∙ fails)
+accepted_not_refused input draft refusal accepted (Refuses.not_planned short document reads cause refused) =
+    let same : document ≡ accepted.document = same_document document accepted.document (document_of input) reads accepted.reads in
+    let here : IsRefused accepted.document cause = subst (λ (d : Document). IsRefused d cause) same refused in
+    let choices : HasChoices accepted.document.project = subst (λ (d : Draft). HasChoices d) (sym accepted.project) accepted.choices in
+    not_refused accepted.document accepted.plannable choices cause here
+
+-- why the project of a document has no plan is why the document is refused
+pub is_refused : (document : Document) (refusal : Refusal) → is_plain document ≡ true → HasNoPlan document.project refusal → IsRefused document refusal
+is_refused document NotBuilt plain apart = λ plannable. apart plannable.joined
+is_refused document (refusals.Limit which count) plain why = (record { plain = plain; joined = why.0 }, why)
+is_refused document refusals.NoChoice plain why = (record { plain = plain; joined = why.0 }, why)
+is_refused document TooLong plain why = absurd why
+is_refused document refusals.NotJson plain why = absurd why
+is_refused document (refusals.WrongShape path) plain why = absurd why
+is_refused document (refusals.Project fault) plain why = absurd why
+
+-- and it is no want of memory
+pub stop_is_cause : (draft : Draft) (refusal : Refusal) → HasNoPlan draft refusal → IsCause refusal
+stop_is_cause draft TooLong why = absurd why
+stop_is_cause draft refusals.NotJson why = absurd why
+stop_is_cause draft (refusals.WrongShape path) why = absurd why
+stop_is_cause draft (refusals.Project fault) why = absurd why
+stop_is_cause draft NotBuilt why = _
+stop_is_cause draft (refusals.Limit which count) why = _
+stop_is_cause draft refusals.NoChoice why = _
+
+-- a document of another form isn't planned
+pub not_plain : (document : Document) (b : Bool) → b ≡ is_plain document → b ≡ false → IsRefused document NotBuilt
+not_plain document b plain other = λ plannable. let h : false ≡ true = sym other ∙ plain ∙ plannable.plain in cc
+
+-- the line of a refusal replies to its document
+pub document_refused : (document : Document) (line : List ℕ) (is_done : Bool) (refusal : Refusal) → IsRefused document refusal
+    → (is_done ≡ false) × (line ≡ line_of (refusal_shown refusal)) → RepliesTo document is_done line
+document_refused document line is_done refusal refused (not_done, line_is) =
+    let here : RepliesTo document false line = record { refusal = refusal; refused = refused; line_is = line_is } in
+    subst (λ (b : Bool). RepliesTo document b line) (sym not_done) here
+
+-- what holds of an answer holds of it in other words
+pub ok_map : {A E : Type 0} (result : Result A E) (P Q : A → Type 0) → ((x : A) → P x → Q x) → IfOk result P → IfOk result Q
+ok_map (Ok x) P Q f h = f x h
+ok_map (Err e) P Q f h = _
+
+-- more bytes were taken than an input may have
+pub too_long_reply : (left new : Option (List ℕ)) (line : List ℕ) (is_done : Bool) → Takes left new 67108865
+    → (is_done ≡ false) × (line ≡ line_of (refusal_shown TooLong)) → IfSome left (λ input. IsReply input is_done line)
+too_long_reply None new line is_done takes shown = _
+too_long_reply (Some input) new line is_done takes shown =
+    reply_refuses input line is_done TooLong (Refuses.too_long (omega (arith, takes_known input new 67108865 takes))) shown
+
+-- a reply to an input that is accepted isn't a refusal
+pub reply_accepts : (left : Option (List ℕ)) (input line : List ℕ) (draft : Draft) (is_done : Bool) → left ≡ Some input → Accepts input draft
+    → is_done ≡ false → IfSome left (λ input. IsReply input is_done line) → ⊥
+reply_accepts left input line draft is_done known accepted not_done reply =
+    let told : IsReply input is_done line = subst (λ (l : Option (List ℕ)). IfSome l (λ input. IsReply input is_done line)) known reply in
+    let declines : IsReply input false line = subst (λ (b : Bool). IsReply input b line) not_done told in
+    accepted_not_refused input draft declines.refusal accepted declines.refused
+
+-- what is neither silent, refused nor a fault is done
+pub done_of : (s : Status) → (IsSilent s → ⊥) → (s ≡ status.Refused → ⊥) → (s ≡ status.WriteFault → ⊥) → s ≡ status.Done
+done_of status.Done loud refused fault = refl
+done_of status.Refused loud refused fault = absurd (refused refl)
+done_of status.Usage loud refused fault = absurd (loud (inl refl))
+done_of status.ReadFault loud refused fault = absurd (loud (inr (inl refl)))
+done_of status.WriteFault loud refused fault = absurd (fault refl)
+done_of status.NoMemory loud refused fault = absurd (loud (inr (inr refl)))
+
+abbrev pub first_of : List (List ℕ) → List ℕ
+first_of [] = []
+first_of (w ∷ ws) = w
+
+-- one word is compared with the wanted one
+pub is_word : (words : List (List ℕ)) (word given wanted : List ℕ) (b : Bool) → words ≡ word ∷ [] → given ≡ word → b ≡ bytes_eq given wanted
+    → (b ≡ true → words ≡ wanted ∷ []) × (words ≡ wanted ∷ [] → b ≡ true)
+is_word words word given wanted b one same compared = (
+  (λ h. one ∙ ap (λ (w : List ℕ). w ∷ []) (sym same ∙ (bytes_decides given wanted).0 (sym compared ∙ h))),
+  (λ e. compared ∙ (bytes_decides given wanted).1 (same ∙ ap first_of (sym one ∙ e))),
+)
+
+-- a list of one element
+pub one_element : {A B : Type 0} (f : A → B) (xs : List A) (x : A) → 1 ≤ length xs → length xs < 2 → x ≡ get_or xs 0 x → map f xs ≡ f x ∷ []
+one_element f [] x some few e = absurd (omega (arith, some))
+one_element f (y ∷ []) x some few e = ap (λ z. f z ∷ []) (sym e)
+one_element f (y ∷ z ∷ xs) x some few e = absurd (omega (arith, few))
+
+shape_differs : (fault : ReadFault) (path : List ℕ) → fault ≡ faults.WrongShape path → fault ≢ faults.NoMemory
+shape_differs fault path e h = absurd (cc)
+
+project_differs : (fault : ReadFault) (cause : ProjectFault) → fault ≡ faults.Project cause → fault ≢ faults.NoMemory
+project_differs fault cause e h = absurd (cc)
+
+no_json_differs : (fault : ReadFault) → fault ≡ NotJson → fault ≢ faults.NoMemory
+no_json_differs fault e h = absurd (cc)
+
+-- what a reading that failed says, by its fault
+pub refuses_no_json : (input : List ℕ) (fault : ReadFault) → length input ≤ 67108864 → fault ≡ NotJson
+    → (fault ≢ faults.NoMemory → document_of input ≡ Err fault) → Refuses input refusals.NotJson
+refuses_no_json input fault short e gives =
+    Refuses.not_json short (no_json_of input (gives (no_json_differs fault e) ∙ ap Err e))
+
+pub refuses_shape : (input path : List ℕ) (fault : ReadFault) → length input ≤ 67108864 → fault ≡ faults.WrongShape path
+    → (fault ≢ faults.NoMemory → document_of input ≡ Err fault) → Refuses input (refusals.WrongShape path)
+refuses_shape input path fault short e gives = Refuses.not_shaped short path (gives (shape_differs fault path e) ∙ ap Err e)
+
+pub refuses_project : (input : List ℕ) (cause : ProjectFault) (fault : ReadFault) → length input ≤ 67108864 → fault ≡ faults.Project cause
+    → (fault ≢ faults.NoMemory → document_of input ≡ Err fault) → Refuses input (refusals.Project cause)
+refuses_project input cause fault short e gives = Refuses.not_sound short cause (gives (project_differs fault cause e) ∙ ap Err e)

@@ -1,0 +1,14 @@
+pub mod Documents
+pub mod InRange
+pub mod Listed
+pub mod NodesBelow
+pub mod PairJoins
+pub mod PairNeeds
+pub mod PairTable
+pub mod PairWire
+pub mod RightPair
+pub mod RightPlans
+pub mod SoundCavities
+pub mod Steps
+pub mod Walk
+pub mod Written
