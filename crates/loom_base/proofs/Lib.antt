@@ -1,1 +1,4 @@
+pub mod Contained
+pub mod EachLemmas
+pub mod NameLemmas
 pub mod StreamLemmas

@@ -7,10 +7,9 @@ use Rattle.std.proofs.lemmas.List.{take-append-drop, take-append-le, take_all, t
 use Rattle.loom_base.specs.Causes.{Rose}
 use Rattle.loom_base.specs.Streams.{ReadsAll, Takes, TakesAtMost}
 
--- a count that rose since a later moment rose since the earlier one
-pub rose_since : (before between now : ℕ) → before ≤ between → Rose between now → Rose before now
-rose_since before between now later rose =
-    elim rose [ inl above ↦ inl (omega arith) | inr last ↦ inr last ]
+-- a count that rose since a moment at which it was as before rose
+pub rose_since : (before between now : ℕ) → between ≡ before → Rose between now → Rose before now
+rose_since before between now same rose = subst (λ n. Rose n now) same rose
 
 -- the front of a buffer into which the front of a list was copied
 pub front_of_filled : (left old : List ℕ) (count : ℕ) → count ≤ length left → take count (take count left ++ drop count old) ≡ take count left

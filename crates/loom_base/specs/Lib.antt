@@ -1,4 +1,5 @@
 pub mod Causes
+pub mod First
 pub mod Names
 pub mod Streams
 pub mod formers

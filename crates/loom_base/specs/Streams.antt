@@ -1,11 +1,8 @@
 -- What sources and sinks of bytes give and take.
-use Rattle.std.specs.Prelude.{ℕ, ◌+◌, ◌-◌, ◌^◌, ◌≡◌, ◌<◌, ◌≤◌, ◌||◌, ◌&&◌, Bool, nat_le, nat_lt, nat_eq, min, if◌then◌else◌, List, ◌++◌, length, take, drop, Option}
+use Rattle.std.specs.Prelude.{ℕ, ◌+◌, ◌-◌, ◌≡◌, ◌<◌, ◌≤◌, ◌||◌, ◌&&◌, Bool, nat_le, nat_lt, nat_eq, min, if◌then◌else◌, List, ◌++◌, length, take, drop, Option}
 use Rattle.std.specs.List.{list_any}
 use Rattle.std.specs.Io.KnownBytes.{Appends, Consumes, IsAtEnd}
-
--- one more, up to the last value of a counter
-abbrev pub next_count : ℕ → ℕ
-next_count count = min (count + 1) (2 ^ 64 - 1)
+use Rattle.loom_base.specs.Causes.{next_count}
 
 -- the number of the next call stands among the calls that fail
 abbrev pub fails_next : List ℕ → ℕ → Bool

@@ -25,7 +25,8 @@ pub(crate) fn fill_front(buf: &mut [u8], from: &[u8]) -> usize
 /// Copies the piece to a place of the space.
 pub(crate) fn put_at(space: &mut [u8], place: usize, piece: &[u8])
     requires { place + length piece.now ≤ length space.old }
-    ensures { space.new ≡ take place space.old ++ piece.now ++ drop (place + length piece.now) space.old }
+    ensures { space.new
+        ≡ take place space.old ++ piece.now ++ drop (place + length piece.now) space.old }
 {
     space[place..place + piece.len()].copy_from_slice(piece);
 }

@@ -53,3 +53,5 @@ pub const MAX_STEPS: u64 = 1_000_000;
 pub const MAX_WIRES: u64 = 65_536;
 /// Decision rows of one job.
 pub const MAX_ROWS: u64 = 262_144;
+/// Elements of an array that is read, so that their positions fit a u32.
+pub const MAX_ELEMENTS: u64 = 4_294_967_293;

@@ -48,7 +48,14 @@ impl MemorySink {
         failing: List<u64>,
     ) -> Result<MemorySink, NoMemory>
         requires { 1 ≤ per_call }
-        ensures { IfOk result (λ sink. sink ≡ record { held = []; room = room; per_call = per_call; failing = failing; calls = 0; faults = 0 }) }
+        ensures { IfOk result (λ sink. sink ≡ record {
+          held = [];
+          room = room;
+          per_call = per_call;
+          failing = failing;
+          calls = 0;
+          faults = 0;
+        }) }
     {
         Ok(MemorySink {
             space: zeros(alloc, room as usize)?,
@@ -74,8 +81,8 @@ impl Sink for MemorySink {
 
     ghost faults = { λ sink. sink.faults };
 
-    /// Takes as many bytes as the piece, the free room and `per_call` allow. Fails exactly where the
-    /// number of the call stands in `failing`, or no room is free for a piece that isn't empty.
+    /// Takes as many bytes as the piece, the free room and `per_call` allow. Fails exactly where
+    /// the number of the call stands in `failing`, or no room is free for a piece that isn't empty.
     fn write(&mut self, piece: &[u8]) -> Result<usize, Failed>
         ensures bound { WritesAtMost result piece.now }
         ensures progress { IfOk result (λ count. 0 < length piece.now → 0 < count) }

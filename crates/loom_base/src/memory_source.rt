@@ -38,7 +38,8 @@ impl Model for MemorySource {
 impl MemorySource {
     /// A source of these bytes; the reads whose numbers stand in `failing` fail.
     pub fn new(bytes: List<u8>, failing: List<u64>) -> MemorySource
-        ensures { result ≡ record { bytes = bytes; place = 0; failing = failing; calls = 0; faults = 0 } }
+        ensures { result
+            ≡ record { bytes = bytes; place = 0; failing = failing; calls = 0; faults = 0 } }
     {
         MemorySource {
             bytes,
@@ -59,10 +60,12 @@ impl Source for MemorySource {
     /// the call stands in `failing`.
     fn read(&mut self, buf: &mut [u8]) -> Result<usize, Failed>
         ensures bound { ReadsAtMost result buf.new }
-        ensures bytes { ReadConsumes (Some (drop self.old.place self.old.bytes)) (Some (drop self.new.place self.new.bytes)) result buf.new }
+        ensures bytes { ReadConsumes (Some (drop self.old.place self.old.bytes))
+            (Some (drop self.new.place self.new.bytes)) result buf.new }
         ensures cause { HasCause self.old.faults self.new.faults result }
         ensures fails { IsErr result ↔ IsTrue (fails_next self.old.failing self.old.calls) }
-        ensures count { IfOk result (λ count. count ≡ read_len self.old.bytes self.old.place (length buf.old)) }
+        ensures count { IfOk result (λ count. count
+            ≡ read_len self.old.bytes self.old.place (length buf.old)) }
         ensures state { self.new ≡ after_read self.old (length buf.old) }
         ensures buffer { buf.new ≡ (if fails_next self.old.failing self.old.calls then buf.old
             else filled self.old.bytes self.old.place buf.old) }

@@ -1,17 +1,18 @@
-ghost use Rattle.std.specs.Prelude.{◌≡◌, ◌≤◌, ◌-◌, ◌++◌, length, replicate, SomeIff, IsTrue, ◌↔◌};
-ghost use Rattle.loom_base.specs.Names.{IsName, is_name_byte};
+ghost use Rattle.std.specs.Prelude.{◌≡◌, ◌≤◌, ◌-◌, ◌++◌, length, replicate, IsTrue};
+ghost use Rattle.loom_base.specs.Names.{is_name as is_name_of, is_name_byte, name_of};
 ghost use Rattle.std.specs.Prelude.{Some, bytes_eq, refl};
 ghost use Rattle.std.proofs.Common.{rules};
 ghost use Rattle.std.specs.Ordering.{nat_cmp};
+ghost use Rattle.std.specs.List.{list_all};
 ghost use Rattle.std.specs.Hash as fed;
 ghost use Rattle.std.specs.Cmp.{partial_equiv_from_equiv};
 ghost use Rattle.std.specs.Cmp.Lexicographic.{slice_cmp, nat_list_eq_equiv, nat_list_cmp_total, texts_ties, texts_po};
 ghost use Rattle.std.specs.Cmp.Rules.{hashing};
 
 use std::cmp::Ordering;
-use std::fmt;
 use std::hash::{Hash, Hasher};
 use std::marker::Model;
+use std::{fmt, str};
 
 /// A name: 1 to 32 bytes of `A-Z a-z 0-9 _ . -`, which contracts see as the list of its bytes.
 #[derive(Clone, Copy)]
@@ -46,11 +47,20 @@ fn is_part_of_name(byte: u8) -> bool
     matches!(byte, b'A'..=b'Z' | b'a'..=b'z' | b'0'..=b'9' | b'_' | b'.' | b'-')
 }
 
-/// Whether the bytes are a name.
-fn is_name(bytes: &[u8]) -> bool
-    ensures { IsTrue result ↔ IsName bytes.now }
+/// Whether each byte may stand in a name.
+fn is_spelled(bytes: &[u8]) -> bool
+    ensures { result ≡ list_all is_name_byte bytes.now }
 {
-    (1..=32).contains(&bytes.len()) && bytes.iter().all(|&byte| is_part_of_name(byte))
+    bytes.iter().all(|&byte| is_part_of_name(byte))
+}
+
+/// Whether the bytes are a name.
+#[tactic(auto, unfolding(crate::specs::Names::is_name))]
+fn is_name(bytes: &[u8]) -> bool
+    ensures value { result ≡ is_name_of bytes.now }
+    ensures short { IsTrue result → length bytes.now ≤ 32 }
+{
+    (1..=32).contains(&bytes.len()) && is_spelled(bytes)
 }
 
 /// The bytes of a name, with zeros behind them.
@@ -66,7 +76,7 @@ fn padded(bytes: &[u8]) -> [u8; 32]
 impl Name {
     /// The name that the bytes spell; None where they aren't a name.
     pub fn parse(bytes: &[u8]) -> Option<Name>
-        ensures { SomeIff result (IsName bytes.now) bytes.now }
+        ensures { result ≡ name_of bytes.now }
     {
         if is_name(bytes) {
             Some(Name {
@@ -80,9 +90,20 @@ impl Name {
 
     pub fn bytes(&self) -> &[u8]
         ensures bytes { result.now ≡ self.now }
-        ensures name { IsName self.now }
+        ensures name { IsTrue (is_name_of self.now) }
     {
         &self.padded[..self.len]
+    }
+
+    /// The name as a text.
+    #[tactic(auto, using(crate::proofs::NameLemmas::names))]
+    pub fn as_str(&self) -> &str
+        ensures { result.now ≡ self.now }
+    {
+        match str::from_utf8(self.bytes()) {
+            Ok(text) => text,
+            Err(_) => unreachable!(),
+        }
     }
 }
 
@@ -136,6 +157,6 @@ impl Hash for Name {
 
 impl fmt::Debug for Name {
     fn fmt<W: fmt::Write>(&self, f: &mut fmt::Formatter<W>) -> fmt::Result {
-        f.debug_tuple("Name").field(&self.bytes()).finish()
+        f.debug_tuple("Name").field(&self.as_str()).finish()
     }
 }

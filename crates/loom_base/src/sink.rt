@@ -11,11 +11,11 @@ pub trait Sink {
     /// The bytes that the sink holds, where it tells them.
     ghost held: { Self → Option (Items ℕ) };
 
-    /// How often a write has failed; it never falls, and may stop at the last value of a u64.
+    /// How often a write has failed; it never falls, and stops at the last value of a u64.
     ghost faults: { Self → ℕ };
 
     /// Appends bytes from the front of the piece, at least one where it isn't empty, and answers
-    /// how many. After a failure nothing was appended.
+    /// how many. After a failure nothing was appended, and the count of faults is one more.
     fn write(&mut self, piece: &[u8]) -> Result<usize, Failed>
         ensures bound { WritesAtMost result piece.now }
         ensures progress { IfOk result (λ count. 0 < length piece.now → 0 < count) }

@@ -24,8 +24,8 @@ impl<W: Write> Sink for StdSink<W> {
 
     ghost faults = { λ sink. sink.faults };
 
-    /// Writes and flushes. A write that takes nothing of a piece that isn't empty is a fault, and so
-    /// is a flush that fails.
+    /// Writes and flushes. A write that takes nothing of a piece that isn't empty is a fault, and
+    /// so is a flush that fails.
     fn write(&mut self, piece: &[u8]) -> Result<usize, Failed> {
         match write_through(&mut self.writer, piece) {
             Some(count) => Ok(count),

@@ -1,9 +1,10 @@
-ghost use Rattle.std.specs.Prelude.{◌≡◌, ◌-◌, ◌^◌, None};
+ghost use Rattle.std.specs.Prelude.{◌≡◌, ◌+◌, ◌-◌, ◌^◌, min};
 
 use crate::{Failed, Source};
 use std::io::Read;
 
-/// The bytes of a reader of the system, of which nothing is told but how often it failed.
+/// The bytes of a reader, which tells what is left where the reader tells it, as the process's own
+/// input doesn't.
 #[derive(Drop)]
 pub struct StdSource<R> {
     reader: R,
@@ -13,14 +14,15 @@ pub struct StdSource<R> {
 impl<R: Read> StdSource<R> {
     /// A source over the reader, as over the standard input.
     pub fn new(reader: R) -> StdSource<R>
-        ensures { result.faults ≡ 0 }
+        ensures of { result.reader ≡ reader }
+        ensures faults { result.faults ≡ 0 }
     {
         StdSource { reader, faults: 0 }
     }
 }
 
 impl<R: Read> Source for StdSource<R> {
-    ghost left = { λ _. None };
+    ghost left = { λ source. R.remaining source.reader };
 
     ghost faults = { λ source. source.faults };
 

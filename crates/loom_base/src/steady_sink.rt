@@ -29,7 +29,8 @@ impl Model for SteadySink {
       faults = sink.faults;
     } };
 
-    ghost invariant = { λ sink. (sink.len ≤ vec_len sink.space) × (0 < sink.faults → sink.len ≡ vec_len sink.space) };
+    ghost invariant = { λ sink. (sink.len ≤ vec_len sink.space)
+        × (0 < sink.faults → sink.len ≡ vec_len sink.space) };
 }
 
 impl SteadySink {
@@ -59,15 +60,16 @@ impl Sink for SteadySink {
 
     ghost faults = { λ sink. sink.faults };
 
-    /// Takes as many bytes as the piece and the free room allow. Fails exactly where no room is free
-    /// for a piece that isn't empty.
+    /// Takes as many bytes as the piece and the free room allow. Fails exactly where no room is
+    /// free for a piece that isn't empty.
     fn write(&mut self, piece: &[u8]) -> Result<usize, Failed>
         ensures bound { WritesAtMost result piece.now }
         ensures progress { IfOk result (λ count. 0 < length piece.now → 0 < count) }
         ensures bytes { WriteAppends (Some self.old.held) (Some self.new.held) result piece.now }
         ensures cause { HasCause self.old.faults self.new.faults result }
         ensures fails { IsErr result ↔ IsTrue (is_full_for piece.now self.old.held self.old.room) }
-        ensures count { IfOk result (λ count. count ≡ min (length piece.now) (self.old.room - length self.old.held)) }
+        ensures count { IfOk result (λ count. count
+            ≡ min (length piece.now) (self.old.room - length self.old.held)) }
         ensures state { self.new ≡ after_steady_write self.old piece.now }
     {
         let free = self.space.len() - self.len;

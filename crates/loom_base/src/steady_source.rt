@@ -43,10 +43,14 @@ impl Source for SteadySource {
     /// Takes as many bytes as the buffer and what is left allow.
     fn read(&mut self, buf: &mut [u8]) -> Result<usize, Failed>
         ensures bound { ReadsAtMost result buf.new }
-        ensures bytes { ReadConsumes (Some (drop self.old.place self.old.bytes)) (Some (drop self.new.place self.new.bytes)) result buf.new }
+        ensures bytes { ReadConsumes (Some (drop self.old.place self.old.bytes))
+            (Some (drop self.new.place self.new.bytes)) result buf.new }
         ensures cause { HasCause 0 0 result }
         ensures count { result ≡ Ok (read_len self.old.bytes self.old.place (length buf.old)) }
-        ensures state { self.new ≡ record self.old { place = self.old.place + read_len self.old.bytes self.old.place (length buf.old) } }
+        ensures state { self.new ≡ record self.old {
+          place = self.old.place
+              + read_len self.old.bytes self.old.place (length buf.old);
+        } }
         ensures buffer { buf.new ≡ filled self.old.bytes self.old.place buf.old }
     {
         let count = fill_front(buf, &self.bytes.as_slice()[self.place as usize..]);

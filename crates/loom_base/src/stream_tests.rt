@@ -85,6 +85,37 @@ fn the_system_gives(rt: HostRuntime) {
     assert_eq!(rt; StdSource::new(Closed).read(&mut buf), Err(Failed));
 }
 
+/// A writer that remembers how much was written, and how much of it at its last flush.
+#[derive(Drop)]
+struct Flushed {
+    written: usize,
+    at_flush: usize,
+}
+
+impl Write for Flushed {
+    fn write(&mut self, buf: &[u8]) -> std::io::Result<usize> {
+        self.written = self.written.saturating_add(buf.len());
+        Ok(buf.len())
+    }
+
+    fn flush(&mut self) -> std::io::Result<()> {
+        self.at_flush = self.written;
+        Ok(())
+    }
+}
+
+#[test]
+fn each_write_is_flushed(rt: HostRuntime) {
+    let mut writer = Flushed {
+        written: 0,
+        at_flush: 0,
+    };
+    assert_eq!(rt; StdSink::new(&mut writer).write(b"abc"), Ok(3));
+    assert_eq!(rt; writer.at_flush, 3);
+    assert_eq!(rt; StdSink::new(&mut writer).write(b"de"), Ok(2));
+    assert_eq!(rt; writer.at_flush, 5);
+}
+
 #[test]
 fn the_system_takes(rt: HostRuntime) {
     let mut sink = StdSink::new(Vec::new(rt.alloc()));

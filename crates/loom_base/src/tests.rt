@@ -5,6 +5,11 @@ use std::test::Fail;
 fn names_are_parsed(rt: HostRuntime) -> Result<(), Fail> {
     let name = Name::parse(b"X-1_a.b").ok_or("a name")?;
     assert_eq!(rt; name.bytes(), b"X-1_a.b".as_slice());
+    assert_eq!(rt; name.as_str(), "X-1_a.b");
+    assert_eq!(rt;
+        format!(in rt.alloc(); "{name:?}")?.as_str(),
+        r#"Name("X-1_a.b")"#
+    );
     assert!(rt; Name::parse(b"").is_none());
     assert!(rt; Name::parse(b"two words").is_none());
     assert!(rt; Name::parse(&[b'a'; 33]).is_none());
@@ -29,5 +34,20 @@ fn lists_grow(rt: HostRuntime) -> Result<(), Fail> {
     let copy = list.copy(rt.alloc()).ok().ok_or("memory")?;
     assert_eq!(rt; copy.as_slice(), [9, 2, 3].as_slice());
     assert_eq!(rt; copy.get(3), None);
+    Ok(())
+}
+
+#[test]
+fn lists_are_edited(rt: HostRuntime) -> Result<(), Fail> {
+    let mut list = List::from_slice(rt.alloc(), &[1u32, 2, 3])
+        .ok()
+        .ok_or("memory")?;
+    assert_eq!(rt; list.len(), 3);
+    list.insert(1, 9).ok().ok_or("memory")?;
+    assert_eq!(rt; list.as_slice(), [1, 9, 2, 3].as_slice());
+    assert_eq!(rt; list.remove(2), 2);
+    assert_eq!(rt; list.as_slice(), [1, 9, 3].as_slice());
+    list.truncate(1);
+    assert_eq!(rt; list.as_slice(), [1].as_slice());
     Ok(())
 }

@@ -1,4 +1,4 @@
-use Rattle.std.proofs.Common.{arith}
+use Rattle.std.proofs.Common.{arith, ◌∙◌}
 use Rattle.loom_base.proofs.StreamLemmas.{appended_more}
 use Rattle.loom_base.proofs.sink.write_all.Goals as goal
 
@@ -9,5 +9,5 @@ writing-preserved g c =
     record {
       within = omega (arith, write.bound);
       appended = appended_more _ _ _ c.args.bytes.now c.writing.written c.in_ok-written.field-0 before.appended write.bytes;
-      later = omega (arith, before.later, write.cause.later);
+      steady = write.cause.counted ∙ before.steady;
     }

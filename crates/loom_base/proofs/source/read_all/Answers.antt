@@ -1,4 +1,4 @@
-use Rattle.std.proofs.Common.{arith, refl, ◌<◌, length, take, drop, ◌++◌, length-append}
+use Rattle.std.proofs.Common.{arith, refl, ◌∙◌, ◌<◌, length, take, drop, ◌++◌, length-append}
 use Rattle.std.proofs.lemmas.List.{length-take}
 use Rattle.loom_base.proofs.StreamLemmas.{rose_since, gathered, ended, taken_with, taken_before}
 use Rattle.loom_base.proofs.source.read_all.Goals as goal
@@ -8,7 +8,7 @@ returns-in_err-count-clause-fault g c =
     let read = c.in_err-count.ensures in
     let before = c.reading.invariant in
     λ _. (
-      rose_since _ _ _ before.later (read.cause.failed refl),
+      rose_since _ _ _ before.steady (read.cause.failed refl),
       taken_before _ _ _ c.reading.bytes.items _ before.taken read.bytes (omega arith),
     )
 
@@ -44,7 +44,7 @@ reading-preserved g c =
         length-take c.in_ok-count.count (c.read.new.buf ++ drop c.min-room.result c.reading.block),
       );
       taken = gathered _ _ _ c.reading.bytes.items c.read.new.buf (drop c.min-room.result c.reading.block) c.extend_from_slice.new.self.items c.in_ok-count.count before.taken read.bytes.0 read.bound.0 c.in_ok-extend_from_slice.ensures.items;
-      later = omega (arith, before.later, read.cause.later);
+      steady = read.cause.counted ∙ before.steady;
     }
 
 pub returns-in_err-extend_from_slice-clause-at_most :
