@@ -1,6 +1,5 @@
 pub mod Again
 pub mod Floats
 pub mod Lists
-pub mod Names
 pub mod Read
 pub mod Views

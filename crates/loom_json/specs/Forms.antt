@@ -3,18 +3,14 @@ use Rattle.std.specs.Option.{option_map_or}
 use Rattle.std.specs.Str.{bytes_eq}
 use Rattle.serde_json.specs.Data.{Data}
 use Rattle.serde_json.specs.Find.{get, as_str}
+use Rattle.loom_base.specs.First.{◌>>=◌}
+use Rattle.loom_base.specs.declared.limits.TheConstants.{MAX_ELEMENTS}
 use Rattle.loom_json.specs.Fields.{number_in, name_in, elements_of, has_only}
-use Rattle.loom_json.specs.declared.path.ReadStop.{ReadStop}
-use Rattle.loom_json.specs.declared.path.ReadStop.TheVariants.{WrongShape, NoMemory}
-
-infixl 10 ◌>>=◌
--- the next reading, where the first gave a value
-abbrev pub ◌>>=◌ : {X Y Path : Type 0} → Result X Path → (X → Result Y Path) → Result Y Path
-Ok x >>= next = next x
-Err path >>= next = Err path
+use Rattle.loom_json.specs.declared.path.ShapeStop.{ShapeStop}
+use Rattle.loom_json.specs.declared.path.ShapeStop.TheVariants.{WrongShape, NoMemory}
 
 -- a call gave what the form gives: the value, or the path of the first place that isn't of the form
-abbrev pub Gives : {X : Type 0} → Result X ReadStop → Result X (List ℕ) → Type 0
+abbrev pub Gives : {X : Type 0} → Result X ShapeStop → Result X (List ℕ) → Type 0
 Gives (Ok x) reading = reading ≡ Ok x
 Gives (Err (WrongShape path)) reading = reading ≡ Err path
 Gives (Err NoMemory) reading = ⊤
@@ -65,19 +61,19 @@ each form position (d ∷ ds) = do
 
 -- the elements of an array that a list may hold
 abbrev pub items_in : Data → Option (List Data)
-items_in d = option_and_then (λ ds. if nat_le (length ds) 4294967293 then Some ds else None) (elements_of d)
+items_in d = option_and_then (λ ds. if nat_le (length ds) MAX_ELEMENTS then Some ds else None) (elements_of d)
 
 -- an array, each element read by a form
 abbrev pub list : {X : Type 0} → (Data → Result X (List ℕ)) → Data → Result (List X) (List ℕ)
 list form d = required (items_in d) >>= each form 0
 
 -- a name
-abbrev pub name_at : Data → Result (List ℕ) (List ℕ)
-name_at d = required (name_in d)
+abbrev pub name_form : Data → Result (List ℕ) (List ℕ)
+name_form d = required (name_in d)
 
 -- a whole number from low to high
-abbrev pub number_at : ℕ → ℕ → Data → Result ℕ (List ℕ)
-number_at low high d = required (number_in low high d)
+abbrev pub number_form : ℕ → ℕ → Data → Result ℕ (List ℕ)
+number_form low high d = required (number_in low high d)
 
 -- whether a value is the string
 abbrev pub is_text : List ℕ → Data → Bool

@@ -19,7 +19,6 @@ pub fn number(value: &Value, low: u64, high: u64) -> Option<u64>
 }
 
 /// The name that the value's string is; None where it is no string or no name (`name_in`).
-#[tactic(auto, using(crate::proofs::Names::names))]
 pub fn name(value: &Value) -> Option<Name>
     ensures { result ≡ name_in (view value.now) }
 {

@@ -1,19 +1,18 @@
-//! Values that are read by forms: what a form gives, or the path of the first place that isn't of it.
-ghost use Rattle.std.specs.Prelude.{◌≡◌, ◌+◌, ◌^◌, ◌<◌, ℕ, List as Items, Result, map, length, decimal, option_map};
-ghost use Rattle.loom_json.specs.Forms.{Gives, under, required as required_of, keyed as keyed_at, at_key as key_at, at_optional as optional_at, at_index as index_at, each as each_at, list as list_at, items_in, name_at, number_at, is_text as is_text_of, is_tagged as is_tagged_by};
-ghost use Rattle.serde_json.specs.Data.{Data, number, string, array, unsigned};
-ghost use Rattle.serde_json.specs.View.{view, items_of};
+//! Values that are read by forms: what a form gives, or the path of the first place that isn't of
+//! it.
+ghost use Rattle.std.specs.Prelude.{◌≡◌, ◌+◌, ◌^◌, ◌<◌, ℕ, List as Items, Result, IsErrOf, map, length, decimal, option_map};
+ghost use Rattle.loom_json.specs.Forms.{Gives, under, required as required_of, keyed as keyed_at, at_key as key_at, at_optional as optional_at, at_index as index_at, each as each_at, list as list_at, items_in, name_form, number_form, is_text as is_text_of, is_tagged as is_tagged_by};
+ghost use Rattle.loom_json.specs.Fields.{array_of};
+ghost use Rattle.serde_json.specs.Data.{Data, number, string, unsigned};
+ghost use Rattle.serde_json.specs.View.{view};
 
 use crate::fields;
-use crate::path::{Path, ReadStop};
+use crate::path::{Path, ShapeStop};
 use crate::shown::{self, Shown};
-use loom_base::{List, Name, NoMemory};
+use loom_base::{List, MAX_ELEMENTS, Name, NoMemory};
 use serde_json::Value;
 use std::alloc::Global;
 use std::marker::PhantomData;
-
-/// The most elements that an array of a form has.
-const MAX_ELEMENTS: usize = 4_294_967_293;
 
 /// A form of JSON values.
 pub trait Form {
@@ -24,7 +23,7 @@ pub trait Form {
     ghost reads: { Data → Result Self.Out (Items ℕ) };
 
     /// Reads a value by the form.
-    fn read(alloc: Global, value: &Value) -> Result<Self::Out, ReadStop>
+    fn read(alloc: Global, value: &Value) -> Result<Self::Out, ShapeStop>
         ensures { Gives result (reads (view value.now)) };
 }
 
@@ -32,47 +31,50 @@ pub trait Form {
 pub fn below<X: Drop>(
     alloc: Global,
     part: &str,
-    reading: Result<X, ReadStop>,
-) -> Result<X, ReadStop>
-    ensures { (form : Result X (Items ℕ)) → Gives reading form → Gives result (under part.now form) }
+    reading: Result<X, ShapeStop>,
+) -> Result<X, ShapeStop>
+    ensures { (form : Result X (Items ℕ)) → Gives reading form
+        → Gives result (under part.now form) }
 {
     match reading {
-        Err(ReadStop::WrongShape { path }) => {
+        Err(ShapeStop::WrongShape { path }) => {
             let path = Path::below(alloc, part, &path)?;
-            Err(ReadStop::WrongShape { path })
+            Err(ShapeStop::WrongShape { path })
         }
         other => other,
     }
 }
 
-/// What was found at a place; where it is None, the place isn't of its form.
-pub fn required<X: Drop>(alloc: Global, found: Option<X>) -> Result<X, ReadStop>
-    ensures { Gives result (required_of found) }
+/// What was found at a place; where it is None, the place isn't of its form. It takes no memory.
+pub fn required<X: Drop>(alloc: Global, found: Option<X>) -> Result<X, ShapeStop>
+    ensures gives { Gives result (required_of found) }
+    ensures memory { ¬ IsErrOf result ShapeStop.NoMemory }
 {
     match found {
         Some(value) => Ok(value),
-        None => Err(ReadStop::here(alloc)),
+        None => Err(ShapeStop::here(alloc)),
     }
 }
 
-/// Whether the value is an object that has no key outside `keys`.
-pub fn keyed(alloc: Global, value: &Value, keys: &[&str]) -> Result<(), ReadStop>
-    ensures { Gives result (keyed_at (map (λ key. key.now) keys.now) (view value.now)) }
+/// Whether the value is an object that has no key outside `keys`. It takes no memory.
+pub fn keyed(alloc: Global, value: &Value, keys: &[&str]) -> Result<(), ShapeStop>
+    ensures gives { Gives result (keyed_at (map (λ key. key.now) keys.now) (view value.now)) }
+    ensures memory { ¬ IsErrOf result ShapeStop.NoMemory }
 {
     if fields::only(value, keys) {
         Ok(())
     } else {
-        Err(ReadStop::here(alloc))
+        Err(ShapeStop::here(alloc))
     }
 }
 
 /// The object's member at a key, read by `F`.
-pub fn at_key<F: Form>(alloc: Global, value: &Value, key: &str) -> Result<F::Out, ReadStop>
+pub fn at_key<F: Form>(alloc: Global, value: &Value, key: &str) -> Result<F::Out, ShapeStop>
     ensures { Gives result (key_at F.reads key.now (view value.now)) }
 {
     let reading = match fields::member(value, key) {
         Some(found) => F::read(alloc, found),
-        None => Err(ReadStop::here(alloc)),
+        None => Err(ShapeStop::here(alloc)),
     };
     below(alloc, key, reading)
 }
@@ -82,7 +84,7 @@ pub fn at_optional<F: Form>(
     alloc: Global,
     value: &Value,
     key: &str,
-) -> Result<Option<F::Out>, ReadStop>
+) -> Result<Option<F::Out>, ShapeStop>
     ensures { Gives result (optional_at F.reads key.now (view value.now)) }
 {
     match fields::member(value, key) {
@@ -96,12 +98,12 @@ pub fn at_index<F: Form>(
     alloc: Global,
     elements: &[Value],
     position: usize,
-) -> Result<F::Out, ReadStop>
+) -> Result<F::Out, ShapeStop>
     ensures { Gives result (index_at F.reads position (map view elements.now)) }
 {
     let reading = match elements.get(position) {
         Some(found) => F::read(alloc, found),
-        None => Err(ReadStop::here(alloc)),
+        None => Err(ShapeStop::here(alloc)),
     };
     below_position(alloc, position, reading)
 }
@@ -110,8 +112,8 @@ pub fn at_index<F: Form>(
 pub fn below_position<X: Drop>(
     alloc: Global,
     position: usize,
-    reading: Result<X, ReadStop>,
-) -> Result<X, ReadStop>
+    reading: Result<X, ShapeStop>,
+) -> Result<X, ShapeStop>
     ensures { (form : Result X (Items ℕ)) → Gives reading form
         → Gives result (under (decimal position) form) }
 {
@@ -129,7 +131,7 @@ pub fn each<F: Form>(
     alloc: Global,
     first: usize,
     elements: &[Value],
-) -> Result<List<F::Out>, ReadStop>
+) -> Result<List<F::Out>, ShapeStop>
     requires { first + length elements.now < 2 ^ 64 }
     ensures { Gives result (each_at F.reads first (map view elements.now)) }
 {
@@ -145,16 +147,16 @@ pub fn each<F: Form>(
 pub fn items(value: &Value) -> Option<&[Value]>
     ensures { option_map (λ found. map view found.now) result ≡ items_in (view value.now) }
 {
-    fields::elements(value).filter(|elements| elements.len() <= MAX_ELEMENTS)
+    fields::elements(value).filter(|elements| elements.len() as u64 <= MAX_ELEMENTS)
 }
 
 /// The array's elements, each read by `F`.
-pub fn list<F: Form>(alloc: Global, value: &Value) -> Result<List<F::Out>, ReadStop>
+pub fn list<F: Form>(alloc: Global, value: &Value) -> Result<List<F::Out>, ShapeStop>
     ensures { Gives result (list_at F.reads (view value.now)) }
 {
     match items(value) {
         Some(elements) => each::<F>(alloc, 0, elements),
-        None => Err(ReadStop::here(alloc)),
+        None => Err(ShapeStop::here(alloc)),
     }
 }
 
@@ -182,7 +184,7 @@ impl<F: Form> Form for ListForm<F> {
 
     ghost reads = { list_at F.reads };
 
-    fn read(alloc: Global, value: &Value) -> Result<List<F::Out>, ReadStop> {
+    fn read(alloc: Global, value: &Value) -> Result<List<F::Out>, ShapeStop> {
         list::<F>(alloc, value)
     }
 }
@@ -190,7 +192,7 @@ impl<F: Form> Form for ListForm<F> {
 impl<S: Shown> Shown for ListForm<S> {
     type Of = List<S::Of>;
 
-    ghost shows = { λ things. array (items_of (map S.shows things)) };
+    ghost shows = { λ things. array_of (map S.shows things) };
 
     fn value(alloc: Global, things: &List<S::Of>) -> Result<Value, NoMemory> {
         shown::array::<S>(alloc, things.as_slice())
@@ -203,9 +205,9 @@ pub struct NameForm;
 impl Form for NameForm {
     type Out = Name;
 
-    ghost reads = { name_at };
+    ghost reads = { name_form };
 
-    fn read(alloc: Global, value: &Value) -> Result<Name, ReadStop> {
+    fn read(alloc: Global, value: &Value) -> Result<Name, ShapeStop> {
         required(alloc, fields::name(value))
     }
 }
@@ -226,9 +228,9 @@ pub struct NumberForm<const LOW: u64, const HIGH: u64>;
 impl<const LOW: u64, const HIGH: u64> Form for NumberForm<LOW, HIGH> {
     type Out = u64;
 
-    ghost reads = { number_at LOW HIGH };
+    ghost reads = { number_form LOW HIGH };
 
-    fn read(alloc: Global, value: &Value) -> Result<u64, ReadStop> {
+    fn read(alloc: Global, value: &Value) -> Result<u64, ShapeStop> {
         required(alloc, fields::number(value, LOW, HIGH))
     }
 }

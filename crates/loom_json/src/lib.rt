@@ -10,5 +10,5 @@ mod tests;
 mod text;
 
 pub use fields::{elements, member, name, number, only};
-pub use path::{Path, ReadStop};
+pub use path::{Path, ShapeStop};
 pub use text::{JsonStop, line, read_value};

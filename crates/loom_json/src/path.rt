@@ -48,52 +48,52 @@ impl Path {
 
 /// Why a value wasn't read by a form.
 #[derive(Debug, Drop)]
-pub enum ReadStop {
+pub enum ShapeStop {
     /// The first place, in reading order, that isn't of its form.
     WrongShape { path: Path },
     NoMemory,
 }
 
-impl ReadStop {
+impl ShapeStop {
     /// The value itself isn't of its form.
-    pub fn here(alloc: Global) -> ReadStop
-        ensures { result ≡ ReadStop.WrongShape [] }
+    pub fn here(alloc: Global) -> ShapeStop
+        ensures { result ≡ ShapeStop.WrongShape [] }
     {
-        ReadStop::WrongShape {
+        ShapeStop::WrongShape {
             path: Path::root(alloc),
         }
     }
 }
 
-impl From<NoMemory> for ReadStop {
+impl From<NoMemory> for ShapeStop {
     ghost use Rattle.std.specs.Prelude.{◌≡◌};
-    ghost use Rattle.loom_json.specs.declared.path.ReadStop.TheVariants as stops;
+    ghost use Rattle.loom_json.specs.declared.path.ShapeStop.TheVariants as stops;
 
     ghost from_gives = { λ _ stop. stop ≡ stops.NoMemory };
 
-    fn from(_error: NoMemory) -> ReadStop {
-        ReadStop::NoMemory
+    fn from(_error: NoMemory) -> ShapeStop {
+        ShapeStop::NoMemory
     }
 }
 
-impl From<AllocError> for ReadStop {
+impl From<AllocError> for ShapeStop {
     ghost use Rattle.std.specs.Prelude.{◌≡◌};
-    ghost use Rattle.loom_json.specs.declared.path.ReadStop.TheVariants as stops;
+    ghost use Rattle.loom_json.specs.declared.path.ShapeStop.TheVariants as stops;
 
     ghost from_gives = { λ _ stop. stop ≡ stops.NoMemory };
 
-    fn from(_error: AllocError) -> ReadStop {
-        ReadStop::NoMemory
+    fn from(_error: AllocError) -> ShapeStop {
+        ShapeStop::NoMemory
     }
 }
 
-impl<T: Drop> From<AllocFailed<T>> for ReadStop {
+impl<T: Drop> From<AllocFailed<T>> for ShapeStop {
     ghost use Rattle.std.specs.Prelude.{◌≡◌};
-    ghost use Rattle.loom_json.specs.declared.path.ReadStop.TheVariants as stops;
+    ghost use Rattle.loom_json.specs.declared.path.ShapeStop.TheVariants as stops;
 
     ghost from_gives = { λ _ stop. stop ≡ stops.NoMemory };
 
-    fn from(_error: AllocFailed<T>) -> ReadStop {
-        ReadStop::NoMemory
+    fn from(_error: AllocFailed<T>) -> ShapeStop {
+        ShapeStop::NoMemory
     }
 }

@@ -1,13 +1,13 @@
 //! Values that are built to be printed. Other leaves are `Value::Null` and `Value::from` of a
 //! number or a truth value, an object is `Value::Object` of its members.
 ghost use Rattle.std.specs.Prelude.{◌≡◌, map, IfOk};
-ghost use Rattle.serde_json.specs.Data.{Data, string, array as array_of, put};
-ghost use Rattle.serde_json.specs.View.{view, items_of, members_view};
+ghost use Rattle.serde_json.specs.Data.{Data, string, put};
+ghost use Rattle.serde_json.specs.View.{view, members_view};
+ghost use Rattle.loom_json.specs.Fields.{array_of};
 
 use loom_base::{Name, NoMemory};
 use serde_json::{Map, Value};
 use std::alloc::Global;
-use std::str;
 
 /// A way to show the things of a type as JSON.
 pub trait Shown {
@@ -24,7 +24,7 @@ pub trait Shown {
 
 /// The array of the things, each shown by `S`.
 pub fn array<S: Shown>(alloc: Global, things: &[S::Of]) -> Result<Value, NoMemory>
-    ensures { IfOk result (λ value. view value ≡ array_of (items_of (map S.shows things.now))) }
+    ensures { IfOk result (λ value. view value ≡ array_of (map S.shows things.now)) }
 {
     let mut shown = Vec::new(alloc);
     for thing in things {
@@ -55,12 +55,8 @@ pub fn text(alloc: Global, text: &str) -> Result<Value, NoMemory>
 }
 
 /// The string of a name.
-#[tactic(auto, using(crate::proofs::Names::names))]
 pub fn name(alloc: Global, name: &Name) -> Result<Value, NoMemory>
     ensures { IfOk result (λ value. view value ≡ string name.now) }
 {
-    match str::from_utf8(name.bytes()) {
-        Ok(spelled) => text(alloc, spelled),
-        Err(_) => unreachable!(),
-    }
+    text(alloc, name.as_str())
 }

@@ -1,10 +1,11 @@
 ghost use Rattle.std.specs.Prelude.{[], ◌∷◌, Ok, codes};
 ghost use Rattle.serde_json.specs.Data.{string, number, unsigned, object, no_members, put};
-ghost use Rattle.loom_json.specs.Forms.{◌>>=◌, keyed as keyed_at, at_key as key_at, name_at, number_at};
+ghost use Rattle.loom_base.specs.First.{◌>>=◌};
+ghost use Rattle.loom_json.specs.Forms.{keyed as keyed_at, at_key as key_at, name_form, number_form};
 
 use crate::forms::{self, Form, ListForm, NameForm, NumberForm};
 use crate::shown::{self, Shown};
-use crate::{JsonStop, ReadStop, elements, line, member, name, number, only, read_value};
+use crate::{JsonStop, ShapeStop, elements, line, member, name, number, only, read_value};
 use loom_base::{List, Name, NoMemory};
 use serde_json::{Map, Value};
 use std::alloc::Global;
@@ -24,11 +25,11 @@ impl Form for TagForm {
 
     ghost reads = { λ d. do
       checked ← keyed_at (codes "name" ∷ codes "price" ∷ []) d
-      name ← key_at name_at (codes "name") d
-      price ← key_at (number_at 1 9) (codes "price") d
+      name ← key_at name_form (codes "name") d
+      price ← key_at (number_form 1 9) (codes "price") d
       Ok (record { name = name; price = price }) };
 
-    fn read(alloc: Global, value: &Value) -> Result<Tag, ReadStop> {
+    fn read(alloc: Global, value: &Value) -> Result<Tag, ShapeStop> {
         forms::keyed(alloc, value, &["name", "price"])?;
         let name = forms::at_key::<NameForm>(alloc, value, "name")?;
         let price = forms::at_key::<NumberForm<1, 9>>(alloc, value, "price")?;
@@ -56,8 +57,8 @@ fn reading_of(alloc: Global, text: &[u8]) -> Result<String, Fail> {
     let value = read_value(alloc, text)?;
     match ListForm::<TagForm>::read(alloc, &value) {
         Ok(tags) => Ok(format!(in alloc; "{} tags", tags.len())?),
-        Err(ReadStop::WrongShape { path }) => Ok(String::from_str(alloc, path.as_str())?),
-        Err(ReadStop::NoMemory) => Err(Fail::new("out of memory")),
+        Err(ShapeStop::WrongShape { path }) => Ok(String::from_str(alloc, path.as_str())?),
+        Err(ShapeStop::NoMemory) => Err(Fail::new("out of memory")),
     }
 }
 
@@ -122,5 +123,31 @@ fn values_are_looked_into(rt: HostRuntime) -> Result<(), Fail> {
         assert_eq!(rt; number(element, 5, 5), wanted);
         assert_eq!(rt; number(element, 6, 9), None);
     }
+    Ok(())
+}
+
+/// The path of a refusal, or nothing.
+fn path_of<X: Drop>(alloc: Global, reading: Result<X, ShapeStop>) -> Result<String, Fail> {
+    match reading {
+        Err(ShapeStop::WrongShape { path }) => Ok(String::from_str(alloc, path.as_str())?),
+        Err(ShapeStop::NoMemory) => Err(Fail::new("out of memory")),
+        Ok(_) => Ok(String::new(alloc)),
+    }
+}
+
+#[test]
+fn elements_are_read_by_position(rt: HostRuntime) -> Result<(), Fail> {
+    let alloc = rt.alloc();
+    let value = read_value(alloc, b"[\"price\",5]")?;
+    let found = elements(&value).ok_or("an array")?;
+    assert!(rt; forms::is_tagged(found, "price", 2));
+    assert!(rt; !forms::is_tagged(found, "price", 1));
+    assert!(rt; !forms::is_tagged(found, "prize", 2));
+    let read = forms::at_index::<NumberForm<5, 6>>(alloc, found, 1)?;
+    assert_eq!(rt; read, 5);
+    let beyond = forms::at_index::<NumberForm<5, 6>>(alloc, found, 2);
+    assert!(rt; path_of(alloc, beyond)?.as_str() == "/2");
+    let another = forms::at_index::<NumberForm<6, 7>>(alloc, found, 1);
+    assert!(rt; path_of(alloc, another)?.as_str() == "/1");
     Ok(())
 }
