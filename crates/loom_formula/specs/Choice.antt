@@ -29,8 +29,8 @@ pub record IsLeastChoice (condition : (ℕ → Bool) → Bool) (choice : ℕ →
   pub least : (other : ℕ → Bool) → IsTrue (condition other) → ¬ IsBefore other choice
 
 -- the choice in which exactly the named options are true
-abbrev pub chosen : List (List ℕ) → List (List ℕ) → List Bool
-chosen options names = map (has_name names) options
+abbrev pub truth_values : List (List ℕ) → List (List ℕ) → List Bool
+truth_values options names = map (has_name names) options
 
 -- the first of the names that isn't an option or came before, where `before` are the names that came before these
 abbrev pub first_fault : List (List ℕ) → List (List ℕ) → List (List ℕ) → Option ChoiceFault
@@ -42,7 +42,7 @@ first_fault options before (name ∷ names) =
 
 -- the choice that names of options make, each once, or the first fault among the names
 abbrev pub choice_of : List (List ℕ) → List (List ℕ) → Result (List Bool) ChoiceFault
-choice_of options names = option_map_or Err (first_fault options [] names) (Ok (chosen options names))
+choice_of options names = option_map_or Err (first_fault options [] names) (Ok (truth_values options names))
 
 -- a call gave the choice or the fault that the names make, unless memory ran out
 abbrev pub GivesChoice : Result Choice ChoiceFault → Result (List Bool) ChoiceFault → Type 0

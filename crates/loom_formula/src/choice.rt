@@ -6,7 +6,8 @@ use crate::Options;
 use loom_base::{List, Name, OptionNo};
 use std::alloc::{AllocError, Global};
 
-/// A choice of the options: the truth of each by its position. What is past the list's end is false.
+/// A choice of the options: the truth of each by its position. What is past the list's end is
+/// false.
 #[derive(Debug, Drop)]
 pub struct Choice {
     pub values: List<bool>,
@@ -42,8 +43,9 @@ impl Choice {
         }
     }
 
-    /// The choice in which exactly the named options are true, with a value for each option. It is `Unknown` at the
-    /// first name that isn't an option and `Repeated` at the first that came before, whichever stands first.
+    /// The choice in which exactly the named options are true, with a value for each option. It is
+    /// `Unknown` at the first name that isn't an option and `Repeated` at the first that came
+    /// before, whichever stands first.
     pub fn of(alloc: Global, options: &Options, names: &[Name]) -> Result<Choice, ChoiceFault>
         ensures { GivesChoice result (choice_of options.now names.now) }
     {

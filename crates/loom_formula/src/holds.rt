@@ -37,7 +37,8 @@ impl Formula {
 impl Members {
     #[cycle(holds)]
     fn all_hold(&self, options: &Options, choice: &Choice) -> bool
-        ensures { result ≡ list_all (λ member. holds_of member options.now (choice_at choice.now.values)) (members_of self.now) }
+        ensures { result ≡ list_all (λ member.
+            holds_of member options.now (choice_at choice.now.values)) (members_of self.now) }
     {
         for member in self.as_slice() {
             if !member.holds(options, choice) {
@@ -49,7 +50,8 @@ impl Members {
 
     #[cycle(holds)]
     fn some_holds(&self, options: &Options, choice: &Choice) -> bool
-        ensures { result ≡ list_any (λ member. holds_of member options.now (choice_at choice.now.values)) (members_of self.now) }
+        ensures { result ≡ list_any (λ member.
+            holds_of member options.now (choice_at choice.now.values)) (members_of self.now) }
     {
         for member in self.as_slice() {
             if member.holds(options, choice) {
@@ -61,7 +63,8 @@ impl Members {
 
     #[cycle(holds)]
     fn one_holds(&self, options: &Options, choice: &Choice) -> bool
-        ensures { result ≡ (count_by (λ member. holds_of member options.now (choice_at choice.now.values)) (members_of self.now) == 1) }
+        ensures { result ≡ (count_by (λ member.
+            holds_of member options.now (choice_at choice.now.values)) (members_of self.now) == 1) }
     {
         let mut found = false;
         for member in self.as_slice() {
@@ -78,17 +81,20 @@ impl Members {
 
 /// The place of the first rule that is false under a choice.
 fn first_false(rules: &[Formula], options: &Options, choice: &Choice) -> Option<usize>
-    ensures { result ≡ position (λ rule. not (holds_of rule options.now (choice_at choice.now.values))) rules.now }
+    ensures { result ≡ position (λ rule.
+        not (holds_of rule options.now (choice_at choice.now.values))) rules.now }
 {
     rules.iter().position(|rule| !rule.holds(options, choice))
 }
 
-/// The position of the first rule that is false under a choice of the options; None exactly where all hold, so that
-/// the choice is valid.
+/// The position of the first rule that is false under a choice of the options; None exactly where
+/// all hold, so that the choice is valid.
 pub fn broken(rules: &[Formula], options: &Options, choice: &Choice) -> Option<u32>
     requires { length rules.now < 2 ^ 32 }
-    ensures first { result ≡ position (λ rule. not (holds_of rule options.now (choice_at choice.now.values))) rules.now }
-    ensures valid { IsNone result ↔ IsTrue (is_valid rules.now options.now (choice_at choice.now.values)) }
+    ensures first { result ≡ position (λ rule.
+        not (holds_of rule options.now (choice_at choice.now.values))) rules.now }
+    ensures valid { IsNone result
+        ↔ IsTrue (is_valid rules.now options.now (choice_at choice.now.values)) }
 {
     let at = first_false(rules, options, choice)?;
     Some(at as u32)

@@ -4,7 +4,8 @@ ghost use Rattle.loom_formula.specs.Formula.{members_of, nodes_of, depth_of, nod
 use crate::{Formula, Members};
 
 impl Formula {
-    /// How many formulas stand in this one, itself among them; above `u64`'s greatest number that number.
+    /// How many formulas stand in this one, itself among them; above `u64`'s greatest number that
+    /// number.
     #[cycle(nodes)]
     pub fn nodes(&self) -> u64
         ensures { result ≡ min (nodes_of self.now) u64.MAX }
@@ -18,8 +19,8 @@ impl Formula {
         }
     }
 
-    /// How many formulas stand in one another at most: 1 without an inner formula; above `u64`'s greatest number
-    /// that number.
+    /// How many formulas stand in one another at most: 1 without an inner formula; above `u64`'s
+    /// greatest number that number.
     #[cycle(depth)]
     pub fn depth(&self) -> u64
         ensures { result ≡ min (depth_of self.now) u64.MAX }

@@ -7,8 +7,8 @@ use loom_base::{Name, NoMemory};
 use std::alloc::Global;
 use std::marker::Model;
 
-/// Names in the order in which they were added, each once, found again by a hashed table. Contracts see the list of
-/// the names.
+/// Names in the order in which they were added, each once, found again by a hashed table. Contracts
+/// see the list of the names.
 #[derive(Drop)]
 pub struct NameIndex {
     names: IndexSet<Name>,
@@ -37,8 +37,8 @@ impl NameIndex {
         }
     }
 
-    /// Puts a name behind the others and answers true, or answers false where the name is there and changes nothing.
-    /// After want of memory the names are as before.
+    /// Puts a name behind the others and answers true, or answers false where the name is there and
+    /// changes nothing. After want of memory the names are as before.
     pub fn add(&mut self, name: Name) -> Result<bool, NoMemory>
         requires { length self.old < u32.MAX }
         ensures answer { IfOk result (λ added. added ≡ not (has_name self.old name)) }

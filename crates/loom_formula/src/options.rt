@@ -36,8 +36,8 @@ impl Options {
         }
     }
 
-    /// Puts an option behind the others and answers true, or answers false where its name is there and changes
-    /// nothing. After want of memory the options are as before.
+    /// Puts an option behind the others and answers true, or answers false where its name is there
+    /// and changes nothing. After want of memory the options are as before.
     pub fn add(&mut self, name: Name) -> Result<bool, NoMemory>
         requires { length self.old < 512 }
         ensures answer { IfOk result (λ added. added ≡ not (has_name self.old name)) }

@@ -6,8 +6,8 @@ use std::alloc::Global;
 use std::marker::Model;
 use thiserror::Error;
 
-/// A decision row: the condition of the number `low` where the option is false, and of the number `high` where it is
-/// true.
+/// A decision row: the condition of the number `low` where the option is false, and of the number
+/// `high` where it is true.
 #[derive(Clone, Copy, Debug, PartialEq, Eq)]
 pub struct Row {
     /// The option's position.
@@ -36,8 +36,8 @@ impl From<NoMemory> for RowFault {
     }
 }
 
-/// A list of decision rows. Number 0 is never, 1 is always, and the rows are numbered from 2 on; low and high of each
-/// row are below its own number. Contracts see the list of the rows.
+/// A list of decision rows. Number 0 is never, 1 is always, and the rows are numbered from 2 on;
+/// low and high of each row are below its own number. Contracts see the list of the rows.
 #[derive(Debug, Drop)]
 pub struct RowList {
     rows: List<Row>,
@@ -68,12 +68,14 @@ impl RowList {
         }
     }
 
-    /// Appends a row, whose number is 2 more than the count before. It is `NotBelow` exactly where low or high isn't
-    /// less than that number. After a refusal the rows are as before.
+    /// Appends a row, whose number is 2 more than the count before. It is `NotBelow` exactly where
+    /// low or high isn't less than that number. After a refusal the rows are as before.
     pub fn push(&mut self, option: u32, low: u32, high: u32) -> Result<(), RowFault>
         requires { length self.old < 4294967294 }
-        ensures ok { OnOk result (self.new ≡ self.old ++ record { option = option; low = low; high = high } ∷ []) }
-        ensures not_below { IsErrOf result RowFault.NotBelow ↔ ((length self.old + 2 ≤ low) ⊎ (length self.old + 2 ≤ high)) }
+        ensures ok { OnOk result (self.new
+            ≡ self.old ++ record { option = option; low = low; high = high } ∷ []) }
+        ensures not_below { IsErrOf result RowFault.NotBelow
+            ↔ ((length self.old + 2 ≤ low) ⊎ (length self.old + 2 ≤ high)) }
         ensures refused { OnErr result (self.new ≡ self.old) }
     {
         let number = self.rows.len() + 2;
@@ -84,8 +86,8 @@ impl RowList {
         Ok(())
     }
 
-    /// The value of a number under a choice of the options, by walking from row to row: 0 is false, 1 is true, and a
-    /// number past the list is false.
+    /// The value of a number under a choice of the options, by walking from row to row: 0 is false,
+    /// 1 is true, and a number past the list is false.
     pub fn value(&self, number: u32, choice: &Choice) -> bool
         ensures { result ≡ value_of self.now (choice_at choice.now.values) number }
     {
@@ -99,8 +101,11 @@ impl RowList {
     /// The number that the row of a number leads to under a choice.
     fn next(&self, number: u32, choice: &Choice) -> Option<u32>
         ensures lower { IfSome result (λ next. next < number) }
-        ensures same { IfSome result (λ next. value_of self.now (choice_at choice.now.values) next ≡ value_of self.now (choice_at choice.now.values) number) }
-        ensures end { IfNone result (value_of self.now (choice_at choice.now.values) number ≡ (number == 1)) }
+        ensures same { IfSome result (λ next.
+            value_of self.now (choice_at choice.now.values) next
+            ≡ value_of self.now (choice_at choice.now.values) number) }
+        ensures end { IfNone result (value_of self.now (choice_at choice.now.values) number
+            ≡ (number == 1)) }
     {
         let row = self.at(number)?;
         Some(if choice.get(OptionNo(row.option)) {
@@ -110,9 +115,11 @@ impl RowList {
         })
     }
 
-    /// The option, low and high of the row of a number; None exactly where the number is 0, 1 or past the list.
+    /// The option, low and high of the row of a number; None exactly where the number is 0, 1 or
+    /// past the list.
     pub fn row(&self, number: u32) -> Option<(u32, u32, u32)>
-        ensures row { result ≡ option_map (λ row. (row.option, row.low, row.high)) (row_at self.now number) }
+        ensures row { result ≡ option_map (λ row.
+            (row.option, row.low, row.high)) (row_at self.now number) }
         ensures below { IfSome result (λ row. (row.1 < number) × (row.2 < number)) }
     {
         let row = self.at(number)?;

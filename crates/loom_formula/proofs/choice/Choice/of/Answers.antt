@@ -1,12 +1,12 @@
 use Rattle.std.proofs.Common.{◌+◌, Bool, false, List, replicate, get_or, refl, sym, ap, ◌∙◌, subst}
-use Rattle.loom_formula.proofs.Choosing.{chosen-none}
+use Rattle.loom_formula.proofs.Choosing.{truth_values-none}
 use Rattle.loom_formula.proofs.Progress.{HasTaken, refused_as_repeated, taken_more}
 use Rattle.loom_formula.proofs.choice.Choice.of.Goals as goal
 
 pub loop-name-init : goal.loop-name-init
 loop-name-init c = record {
   each_once = c.count.ensures.each_once;
-  made = c.from_vec-values.ensures ∙ c.in_ok-vec.ensures.items_if_clones_equal (λ y same. same) ∙ ap (λ n. replicate n false) c.count.ensures.count ∙ sym (chosen-none c.args.options.now);
+  made = c.from_vec-values.ensures ∙ c.in_ok-vec.ensures.items_if_clones_equal (λ y same. same) ∙ ap (λ n. replicate n false) c.count.ensures.count ∙ sym (truth_values-none c.args.options.now);
   same_fault = refl;
 }
 
