@@ -14,7 +14,7 @@ use Rattle.loom_topology.specs.Topology.{TopologyView, Leads}
 use Rattle.loom_topology.specs.Reach.{IsReached}
 use Rattle.loom_topology.specs.Reach.IsReached.{here, over}
 use Rattle.loom_topology.specs.Found.{FoundView, IsFound, IsSpread, is_marked, with_found}
-use Rattle.loom_topology.proofs.Leads.{Contains-filter_range}
+use Rattle.loom_base.proofs.Contained.{Contains-filter_range}
 use Rattle.loom_topology.proofs.OpenSegments.{range_with_len-more}
 
 none_there : (u : ℕ) → Contains [] u → ⊥
@@ -152,7 +152,7 @@ marked_rise p n =
     omega (arith, get_or-range_with_len 0 n k 0 first, get_or-range_with_len 0 n (k + 1) 0 next))
 
 -- one more number is gone over
-filter-more : (p : ℕ → Bool) (n : ℕ) → filter p (range_with_len 0 (n + 1)) ≡ filter p (range_with_len 0 n) ++ filter p (n ∷ [])
+pub filter-more : (p : ℕ → Bool) (n : ℕ) → filter p (range_with_len 0 (n + 1)) ≡ filter p (range_with_len 0 n) ++ filter p (n ∷ [])
 filter-more p n =
     ap (filter p) (range_with_len-more 0 n ∙ ap (λ m. range_with_len 0 n ++ m ∷ []) (zero-add n))
     ∙ filter-append p (range_with_len 0 n) (n ∷ [])

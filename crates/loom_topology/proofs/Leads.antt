@@ -8,6 +8,7 @@ use Rattle.std.proofs.lemmas.List.{get_or_past}
 use Rattle.std.proofs.lemmas.List.Elements.{All-filter, filter_passes}
 use Rattle.std.proofs.lemmas.List.FromFn.{length-range_with_len, get_or-range_with_len}
 use Rattle.std.proofs.lemmas.List.Kept.{IsStrictlyIncreasing-filter}
+use Rattle.loom_base.proofs.Contained.{Contains-filter_range}
 use Rattle.loom_topology.specs.Topology.{TopologyView, Segment, no_segment, segment_at, is_open_to, open_among, open_at, other_end_at, Leads, IsSound}
 
 -- the listed numbers are those of segments
@@ -35,24 +36,6 @@ open_among-rising segments v =
     let first : k < n = omega (arith, length-range_with_len 0 n) in
     let next : k + 1 < n = omega (arith, length-range_with_len 0 n) in
     omega (arith, get_or-range_with_len 0 n k 0 first, get_or-range_with_len 0 n (k + 1) 0 next))
-
-Contains-cons : (x y : ℕ) (l : List ℕ) → Contains l x → Contains (y ∷ l) x
-Contains-cons x y l (k, below, at) = (suc k, omega arith, at)
-
-kept-tail : (b : Bool) (a s : ℕ) (l : List ℕ) → Contains l s → Contains (cond b (a ∷ l) l) s
-kept-tail true a s l h = Contains-cons s a l h
-kept-tail false a s l h = h
-
-pub Contains-filter_range : (p : ℕ → Bool) (a n s : ℕ) → a ≤ s → s < a + n → p s ≡ true → Contains (filter p (range_with_len a n)) s
-Contains-filter_range p a zero s from to passes = absurd (omega arith)
-Contains-filter_range p a (suc n) s from to passes =
-    let rest = filter p (range_with_len (a + 1) n) in
-    elim (cases_eq a s) [
-      | inl e ↦
-          let P : Bool → Type 0 = λ b. Contains (cond b (a ∷ rest) rest) s in
-          subst P (sym (ap p e ∙ passes)) (0, omega arith, e)
-      | inr other ↦ kept-tail (p a) a s rest (Contains-filter_range p (a + 1) n s (omega arith) (omega arith) passes)
-    ]
 
 -- each open segment that ends at the node is listed
 pub Contains-open_among : (segments : List Segment) (v s : ℕ) → s < length segments → is_open_to (get_or segments s no_segment) v ≡ true → Contains (open_among segments v) s

@@ -6,7 +6,7 @@ use Rattle.std.proofs.lemmas.List.Elements.{All-get_or}
 use Rattle.loom_topology.proofs.Sound.{sound-from, sound-to, sound-cavity}
 use Rattle.loom_topology.specs.Topology.{TopologyView, IsSound, Leads, branch_at, price_at, node_of}
 use Rattle.loom_topology.specs.TreeCost.{HasTree, cost_of}
-use Rattle.loom_topology.specs.Legal.{IsLegal, IsMask, IsAtMost, plus, cavities_of}
+use Rattle.loom_topology.specs.Legal.{IsLegal, IsMask, IsAtMost, plus, cavities_of_mask}
 use Rattle.loom_topology.specs.Least.{IsLeast, HasLeastCosts}
 use Rattle.loom_topology.proofs.Places.{open_below}
 use Rattle.loom_topology.proofs.Over.{step_adds_price}
@@ -37,12 +37,12 @@ over_least topology cavities s v u at_v (Some m) leads least_v least_u =
 
 split_least : (topology : TopologyView) (terminals : List ℕ) (a b v : ℕ) (at_both at_a at_b : Option ℕ)
     → 0 < a → 0 < b → bit_and a b ≡ 0 → IsMask terminals (a + b)
-    → IsLeast topology (cavities_of terminals (a + b)) v at_both → IsLeast topology (cavities_of terminals a) v at_a
-    → IsLeast topology (cavities_of terminals b) v at_b → IsAtMost at_both (plus (plus at_a at_b) (Some (branch_at topology v)))
+    → IsLeast topology (cavities_of_mask terminals (a + b)) v at_both → IsLeast topology (cavities_of_mask terminals a) v at_a
+    → IsLeast topology (cavities_of_mask terminals b) v at_b → IsAtMost at_both (plus (plus at_a at_b) (Some (branch_at topology v)))
 split_least topology terminals a b v at_both None at_b some_a some_b apart range least_both least_a least_b = tt
 split_least topology terminals a b v at_both (Some m) None some_a some_b apart range least_both least_a least_b = tt
 split_least topology terminals a b v at_both (Some m) (Some n) some_a some_b apart range least_both least_a least_b =
-    least_at_most topology (cavities_of terminals (a + b)) v (m + n + branch_at topology v) at_both least_both
+    least_at_most topology (cavities_of_mask terminals (a + b)) v (m + n + branch_at topology v) at_both least_both
     (trees_join topology terminals a b v m n some_a some_b apart range least_a.0 least_b.0)
 
 pub least_costs_are_legal : (topology : TopologyView) (terminals : List ℕ) (least : ℕ → ℕ → Option ℕ)
@@ -53,12 +53,12 @@ least_costs_are_legal topology terminals least sound in_range costs = record {
       let grows : 2 ^ i < 2 ^ (length terminals - 1) = let before : i < length terminals - 1 = omega arith in pow-lt before in
       let node : node_of topology (slice_index terminals (i + 1)) < length topology.nodes =
       sound-cavity topology sound (slice_index terminals (i + 1)) (All-get_or (λ c. c < length topology.cavities) terminals (i + 1) 0 h in_range) in
-      least_at_most topology (cavities_of terminals (2 ^ i)) (node_of topology (slice_index terminals (i + 1))) 0
+      least_at_most topology (cavities_of_mask terminals (2 ^ i)) (node_of topology (slice_index terminals (i + 1))) 0
       (least (2 ^ i) (node_of topology (slice_index terminals (i + 1))))
       (costs (2 ^ i) (node_of topology (slice_index terminals (i + 1))) (pow_pos i, grows) node)
       (one_cavity_is_free topology terminals i h);
   over = λ mask v s u range node leads.
-      over_least topology (cavities_of terminals mask) s v u (least mask v) (least mask u) leads (costs mask v range node)
+      over_least topology (cavities_of_mask terminals mask) s v u (least mask v) (least mask u) leads (costs mask v range node)
       (costs mask u range (leads_below topology s v u sound leads));
   split = λ a b v some_a some_b apart range node.
       split_least topology terminals a b v (least (a + b) v) (least a v) (least b v) some_a some_b apart range

@@ -12,6 +12,7 @@ pub mod Hangs
 pub mod Sound
 pub mod Places
 pub mod LowerBound
+pub mod OpenAt
 pub mod Drawn
 pub mod Over
 pub mod Masks
@@ -23,4 +24,7 @@ pub mod Reach
 pub mod Found
 pub mod LeastLegal
 pub mod Raised
+pub mod Tied
+pub mod ShortWays
+pub mod CheapestSegments
 pub mod Spread

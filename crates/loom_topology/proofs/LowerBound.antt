@@ -5,7 +5,7 @@ use Rattle.std.proofs.lemmas.List.Sums.{sum_by_more, count_by_more_yes, count_by
 use Rattle.loom_topology.specs.Topology.{TopologyView, IsSound, branch_at, price_at, node_of}
 use Rattle.loom_topology.specs.WiringTree.{Tree, IsWiringTree, no_step, step_at, place_of}
 use Rattle.loom_topology.specs.TreeCost.{cost_of, degree_of, splice_cost_of}
-use Rattle.loom_topology.specs.Legal.{IsLegal, IsMask, IsAtMost, plus, cavities_of}
+use Rattle.loom_topology.specs.Legal.{IsLegal, IsMask, IsAtMost, plus, cavities_of_mask}
 use Rattle.loom_topology.proofs.Sums.{sum_through-same}
 use Rattle.loom_topology.proofs.Bundles.{Bundled, Merges, worth}
 use Rattle.loom_topology.proofs.Climb.{Steps, climb}
@@ -34,7 +34,7 @@ sum_through-zero (suc n) = omega (arith, sum_through-zero n)
 
 module _ (topology : TopologyView) (terminals : List ℕ) (P : ℕ → ℕ → Option ℕ) (mask v : ℕ) (tree : Tree)
     (sound : IsSound topology) (legal : IsLegal topology terminals P) (range : IsMask terminals mask)
-    (node : v < length topology.nodes) (is_tree : IsWiringTree topology (cavities_of terminals mask) v tree) where
+    (node : v < length topology.nodes) (is_tree : IsWiringTree topology (cavities_of_mask terminals mask) v tree) where
   -- the table at the mask m, at the place of p, is at most r
   abbrev Below : ℕ → ℕ → ℕ → Type 0
   Below p m r = IsAtMost (P m (place_of topology v tree p)) (Some r)
@@ -62,7 +62,7 @@ module _ (topology : TopologyView) (terminals : List ℕ) (P : ℕ → ℕ → O
     merge = λ p a b r s below some_a some_b apart fits below_a below_b.
         at_most-split (P (a + b) (place_of topology v tree p)) (P a (place_of topology v tree p)) (P b (place_of topology v tree p)) r s (branch p)
         (legal.split a b (place_of topology v tree p) some_a some_b apart (omega arith, omega arith)
-        (place_below topology (cavities_of terminals mask) v tree is_tree sound node p below)) below_a below_b;
+        (place_below topology (cavities_of_mask terminals mask) v tree is_tree sound node p below)) below_a below_b;
     weaken = λ p m r s. at_most-weaken (P m (place_of topology v tree p)) r s;
   }
 
@@ -73,8 +73,8 @@ module _ (topology : TopologyView) (terminals : List ℕ) (P : ℕ → ℕ → O
         let start : parent k ≤ k = is_tree.parent k h in
         at_most-over (P m (place_of topology v tree (parent k))) (P m (place_of topology v tree (suc k))) r (price k)
         (legal.over m (place_of topology v tree (parent k)) (step_at tree k).segment (place_of topology v tree (suc k)) (some, omega arith)
-        (place_below topology (cavities_of terminals mask) v tree is_tree sound node (parent k) (omega arith))
-        (step_leads topology (cavities_of terminals mask) v tree is_tree k h)) below;
+        (place_below topology (cavities_of_mask terminals mask) v tree is_tree sound node (parent k) (omega arith))
+        (step_leads topology (cavities_of_mask terminals mask) v tree is_tree k h)) below;
     adds = λ k h.
         let e : k + 1 ≡ suc k = omega arith in
         rw e at (sum_by_more (λ s. price_at topology s.segment) tree.steps k no_step h);

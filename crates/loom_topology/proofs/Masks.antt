@@ -6,7 +6,7 @@ use Rattle.std.proofs.lemmas.Bool.{cases_eq}
 use Rattle.std.proofs.lemmas.Nat.{and_shr}
 use Rattle.std.proofs.lemmas.Nat.Bits.{bit_at_and, bit_at_lowest, bit_at-zero}
 use Rattle.std.proofs.lemmas.List.Sums.{sum_by-cons}
-use Rattle.loom_topology.specs.Legal.{chosen, cavities_of}
+use Rattle.loom_topology.specs.Legal.{chosen, cavities_of_mask}
 use Rattle.loom_topology.proofs.Hangs.{hung_at, zip_cons, chosen-one, chosen-none, pow_length}
 
 chosen-zero : (cs : List ℕ) → chosen cs 0 ≡ []
@@ -23,7 +23,7 @@ chosen-pow (c ∷ cs) (suc i) h =
 
 -- the mask of one terminal has its cavity alone
 pub power_is_one_cavity : (terminals : List ℕ) (i : ℕ) → i + 1 < length terminals
-    → cavities_of terminals (2 ^ i) ≡ slice_index terminals (i + 1) ∷ []
+    → cavities_of_mask terminals (2 ^ i) ≡ slice_index terminals (i + 1) ∷ []
 power_is_one_cavity terminals i h =
     let within : i < length (drop 1 terminals) = omega (arith, length-drop 1 terminals) in
     let at : 1 + i ≡ i + 1 = omega arith in

@@ -5,7 +5,7 @@ use Rattle.std.proofs.lemmas.Bool.{cases_eq, cond-true, cond-false, eq-eqb, ne_e
 use Rattle.std.proofs.lemmas.Nat.{or_disjoint, and_comm, and_or_self}
 use Rattle.loom_topology.specs.Topology.{TopologyView, IsSound, Leads, branch_at, price_at, node_of}
 use Rattle.loom_topology.specs.TreeCost.{HasTree, cost_of}
-use Rattle.loom_topology.specs.Legal.{IsLegal, IsMask, IsAtMost, HoldsFirst, SplitHolds, plus, cavities_of}
+use Rattle.loom_topology.specs.Legal.{IsLegal, IsMask, IsAtMost, HoldsFirst, SplitHolds, plus, cavities_of_mask}
 use Rattle.loom_topology.specs.Least.{IsLeast, HasLeastCosts}
 use Rattle.loom_topology.specs.Ties.{IsOneAt, AreTied, IsFirstPart, Splits, StepsTo}
 use Rattle.loom_topology.proofs.LowerBound.{legal_is_below_every_tree}
@@ -183,7 +183,7 @@ pub a_rule_applies : (topology : TopologyView) (terminals : List ℕ) (P : ℕ �
     → ⊥
 a_rule_applies topology terminals P mask v m sound in_range costs range node cell not_one no_split no_step =
     let legal : IsLegal topology terminals P = least_costs_are_legal topology terminals P sound in_range costs in
-    let (tree, is_tree, cost) = number-tree topology (cavities_of terminals mask) v m (P mask v) cell (costs mask v range node) in
+    let (tree, is_tree, cost) = number-tree topology (cavities_of_mask terminals mask) v m (P mask v) cell (costs mask v range node) in
     let below : IsAtMost (raised P mask v (Some (m + 1)) mask v) (Some (cost_of topology v tree)) =
     legal_is_below_every_tree topology terminals (raised P mask v (Some (m + 1))) mask v tree sound
     (raised_is_legal topology terminals P mask v m sound legal cell not_one no_split no_step) range node is_tree in

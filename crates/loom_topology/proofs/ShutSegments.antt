@@ -1,24 +1,18 @@
 -- Shutting the segments of a list, one after another.
-use Rattle.std.proofs.Common.{◌≡◌, ◌<◌, ◌&&◌, ◌||◌, [], ◌∷◌, ◌++◌, not, length, get_or, ℕ, List, true, false, eqb, sym, ap, ◌∙◌, refl, arith, inl, inr}
+use Rattle.std.proofs.Common.{◌≡◌, ◌<◌, ◌||◌, [], ◌∷◌, ◌++◌, length, get_or, map, ℕ, List, true, false, eqb, sym, ap, ◌∙◌, refl, arith, inl, inr}
 use Rattle.std.specs.List.{list_any}
 use Rattle.std.proofs.Math.ListN.{set}
-use Rattle.std.proofs.Math.Bool.{and-false, and-true, or-true, or-false}
+use Rattle.std.proofs.Math.Bool.{or-true, or-false}
 use Rattle.std.proofs.lemmas.Bool.{cases_eq, eq-eqb, ne_eqb}
-use Rattle.std.proofs.lemmas.List.{length-set, get_or-set_same, get_or-set_other, get_or_default, same_lists}
+use Rattle.std.proofs.lemmas.List.{length-set, length-map, get_or-map, get_or-set_same, get_or-set_other, get_or_default, same_lists}
 use Rattle.std.proofs.lemmas.List.FromFn.{length-map-range_with_len, get_or-map-range_with_len}
 use Rattle.std.proofs.lemmas.List.Folds.{list_any-append}
 use Rattle.loom_topology.specs.Topology.{Segment, TopologyView, no_segment, shut_if, shut_among, shut_in, IsSound}
 
--- the new segments are the old ones, those of the list shut too
+-- the new segments are the old ones, of which exactly those of the list are shut
 pub record IsShut (new old : List Segment) (list : List ℕ) : Type 0 where
   pub count : length new ≡ length old
   pub each : (k : ℕ) → k < length old → get_or new k no_segment ≡ shut_if (list_any (eqb k) list) (get_or old k no_segment)
-
-shut_if-false : (g : Segment) → shut_if false g ≡ g
-shut_if-false g = ap (λ b. record { from = g.from; to = g.to; kind = g.kind; is_open = b }) (and-true g.is_open)
-
-pub IsShut-none : (old : List Segment) → IsShut old old []
-IsShut-none old = record { count = refl; each = λ k below. sym (shut_if-false (get_or old k no_segment)) }
 
 -- segment s is shut next
 pub IsShut-push : (new after old : List Segment) (list : List ℕ) (s : ℕ) (g : Segment) → IsShut new old list → s < length old → g ≡ shut_if true (get_or new s no_segment) → after ≡ set new s g → IsShut after old (list ++ s ∷ [])
@@ -37,8 +31,6 @@ IsShut-push new after old list s g shut within closed e = record {
             ∙ get_or-set_same new s g no_segment (omega (arith, shut.count))
             ∙ closed
             ∙ ap (shut_if true) (ap (λ j. get_or new j no_segment) (sym same) ∙ shut.each k below)
-            ∙ ap (λ b. record { from = h.from; to = h.to; kind = h.kind; is_open = b })
-            (and-false (h.is_open && not (list_any (eqb k) list)) ∙ sym (and-false h.is_open))
             ∙ ap (λ b. shut_if b h) (sym here)
         | inr other ↦
             let there : list_any (eqb k) (list ++ s ∷ []) ≡ list_any (eqb k) list =
@@ -60,6 +52,13 @@ pub get_or-shut_among : (old : List Segment) (list : List ℕ) (k : ℕ) (d : Se
 unfolding shut_among
 get_or-shut_among old list k d below = get_or-map-range_with_len _ 0 (length old) k k d below (omega arith)
 
+-- where none is shut, none of the list is
+pub IsShut-none : (old : List Segment) → old ≡ shut_among old [] → IsShut old old []
+IsShut-none old opened = record {
+  count = refl;
+  each = λ k below. ap (λ l. get_or l k no_segment) opened ∙ get_or-shut_among old [] k no_segment below;
+}
+
 pub same_from_IsShut : (new old : List Segment) (list : List ℕ) → IsShut new old list → new ≡ shut_among old list
 same_from_IsShut new old list shut =
     same_lists new (shut_among old list) (shut.count ∙ sym (length-shut_among old list))
@@ -68,6 +67,28 @@ same_from_IsShut new old list shut =
     get_or_default new k d no_segment below
     ∙ shut.each k within
     ∙ sym (get_or-shut_among old list k d within))
+
+-- what was shut before doesn't matter
+pub shut_among-shut_among : (old : List Segment) (before list : List ℕ) → shut_among (shut_among old before) list ≡ shut_among old list
+shut_among-shut_among old before list =
+    same_lists (shut_among (shut_among old before) list) (shut_among old list)
+    (length-shut_among (shut_among old before) list ∙ length-shut_among old before ∙ sym (length-shut_among old list))
+    (λ k d below.
+    let inner : k < length (shut_among old before) = omega (arith, length-shut_among (shut_among old before) list) in
+    let within : k < length old = omega (arith, inner, length-shut_among old before) in
+    get_or-shut_among (shut_among old before) list k d inner
+    ∙ ap (shut_if (list_any (eqb k) list)) (get_or-shut_among old before k no_segment within)
+    ∙ sym (get_or-shut_among old list k d within))
+
+-- where all are opened, none is shut
+pub map-shut_if_false : (old : List Segment) → map (shut_if false) old ≡ shut_among old []
+map-shut_if_false old =
+    same_lists (map (shut_if false) old) (shut_among old [])
+    (length-map old (shut_if false) ∙ sym (length-shut_among old []))
+    (λ k d below.
+    let within : k < length old = omega (arith, length-map old (shut_if false)) in
+    get_or-map (shut_if false) old k no_segment d within
+    ∙ sym (get_or-shut_among old [] k d within))
 
 -- the shut topology is sound
 pub IsSound-shut_in : (topology : TopologyView) (list : List ℕ) → IsSound topology → IsSound (shut_in topology list)

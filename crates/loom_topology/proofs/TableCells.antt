@@ -4,7 +4,7 @@ use Rattle.std.specs.Option.{IfSome, ForSome, unwrap_or}
 use Rattle.std.proofs.lemmas.Bool.{ne_eqb}
 use Rattle.std.proofs.lemmas.List.{length-set, length-replicate}
 use Rattle.std.proofs.lemmas.List.Elements.{All-set, All-replicate}
-use Rattle.loom_topology.specs.Table.{TableView, IsWhole, with_cell, empty_table, place_of_cell}
+use Rattle.loom_topology.specs.Table.{TableView, IsWhole, with_cell, empty_table, cell_index}
 use Rattle.loom_topology.specs.TableInside.{value_of_code}
 
 pub IsWhole-empty_table : (table : TableView) (masks nodes : ℕ) → table ≡ empty_table masks nodes → IsWhole table
@@ -19,8 +19,8 @@ pub IsWhole-with_cell : (old new : TableView) (mask v : ℕ) (value : Option ℕ
 IsWhole-with_cell old new mask v value whole e small =
     let P : TableView → Type 0 = λ t. IsWhole t in
     subst P (sym e) (record {
-      count = length-set old.cells (place_of_cell old mask v) value ∙ whole.count;
-      small = All-set (λ cell. IfSome cell (λ value. value ≤ 2 ^ 40)) old.cells (place_of_cell old mask v) value small whole.small;
+      count = length-set old.cells (cell_index old mask v) value ∙ whole.count;
+      small = All-set (λ cell. IfSome cell (λ value. value ≤ 2 ^ 40)) old.cells (cell_index old mask v) value small whole.small;
     })
 
 -- a cost has itself as its code

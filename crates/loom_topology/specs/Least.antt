@@ -2,7 +2,7 @@ use Rattle.std.specs.Prelude.{ℕ, List, Option, ◌<◌, ◌≤◌, length, Mat
 use Rattle.loom_topology.specs.Topology.{TopologyView}
 use Rattle.loom_topology.specs.WiringTree.{Tree, IsWiringTree}
 use Rattle.loom_topology.specs.TreeCost.{cost_of, HasTree}
-use Rattle.loom_topology.specs.Legal.{IsMask, cavities_of}
+use Rattle.loom_topology.specs.Legal.{IsMask, cavities_of_mask}
 
 -- the least cost of a wiring tree for the cavities from node v: some tree costs it and none costs less; None where there is no tree
 abbrev pub IsLeast : TopologyView → List ℕ → ℕ → Option ℕ → Type 0
@@ -14,4 +14,4 @@ IsLeast topology cavities v answer =
 abbrev pub HasLeastCosts : TopologyView → List ℕ → (ℕ → ℕ → Option ℕ) → Type 0
 HasLeastCosts topology terminals P =
     (mask v : ℕ) → IsMask terminals mask → v < length topology.nodes
-    → IsLeast topology (cavities_of terminals mask) v (P mask v)
+    → IsLeast topology (cavities_of_mask terminals mask) v (P mask v)

@@ -20,8 +20,8 @@ chosen [] mask = []
 chosen (c ∷ cs) mask = (if mask % 2 == 1 then c ∷ chosen cs (mask / 2) else chosen cs (mask / 2))
 
 -- the cavities of a mask of a net: bit i stands for terminal i + 1, since terminal 0 is the stem
-abbrev pub cavities_of : List ℕ → ℕ → List ℕ
-cavities_of terminals mask = chosen (drop 1 terminals) mask
+abbrev pub cavities_of_mask : List ℕ → ℕ → List ℕ
+cavities_of_mask terminals mask = chosen (drop 1 terminals) mask
 
 -- a mask of the net, with at least one cavity
 abbrev pub IsMask : List ℕ → ℕ → Type 0

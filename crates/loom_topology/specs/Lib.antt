@@ -11,4 +11,6 @@ pub mod Least
 pub mod Reach
 pub mod Found
 pub mod Ties
+pub mod Ways
+pub mod WaysInside
 pub mod Laws

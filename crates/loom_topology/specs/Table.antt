@@ -7,15 +7,15 @@ pub record TableView : Type 0 where
   pub cells : List (Option ℕ)
 
 -- masks count from 1; all nodes of a mask stand together
-abbrev pub place_of_cell : TableView → ℕ → ℕ → ℕ
-place_of_cell table mask v = (mask - 1) * table.nodes + v
+abbrev pub cell_index : TableView → ℕ → ℕ → ℕ
+cell_index table mask v = (mask - 1) * table.nodes + v
 
 abbrev pub cell_at : TableView → ℕ → ℕ → Option ℕ
-cell_at table mask v = slice_index_or table.cells (place_of_cell table mask v) None
+cell_at table mask v = slice_index_or table.cells (cell_index table mask v) None
 
 -- the same table but for one cell
 abbrev pub with_cell : TableView → ℕ → ℕ → Option ℕ → TableView
-with_cell table mask v value = record table { cells = slice_set table.cells (place_of_cell table mask v) value }
+with_cell table mask v value = record table { cells = slice_set table.cells (cell_index table mask v) value }
 
 abbrev pub empty_table : ℕ → ℕ → TableView
 empty_table masks nodes = record { masks = masks; nodes = nodes; cells = replicate (masks * nodes) None }

@@ -121,13 +121,13 @@ with_segment topology from to kind =
     record topology { segments = topology.segments ++ (open_segment from to kind) ∷ [] }
 
 abbrev pub shut_if : Bool → Segment → Segment
-shut_if is_shut g = record g { is_open = g.is_open && not is_shut }
+shut_if is_shut g = record g { is_open = not is_shut }
 
--- the same segments, those of the list shut too
+-- the same segments, of which exactly those of the list are shut
 unfoldable pub shut_among : List Segment → List ℕ → List Segment
 shut_among segments list =
     map (λ s. shut_if (list_any (nat_eq s) list) (slice_index_or segments s no_segment)) (range_with_len 0 (length segments))
 
--- the same topology, in which the segments of the list are shut too
+-- the same topology, in which exactly the segments of the list are shut
 abbrev pub shut_in : TopologyView → List ℕ → TopologyView
 shut_in topology list = record topology { segments = shut_among topology.segments list }

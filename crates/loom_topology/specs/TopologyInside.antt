@@ -1,12 +1,12 @@
 use Rattle.std.specs.Prelude.{ℕ, List, ◌≡◌, ◌<◌, length, map}
-use Rattle.loom_topology.specs.declared.topology.Place.{Place}
+use Rattle.loom_topology.specs.declared.topology.NodeData.{NodeData}
 use Rattle.loom_topology.specs.declared.topology.Link.{Link}
 use Rattle.loom_topology.specs.declared.topology.Topology.TheInside.{Inside}
 use Rattle.loom_topology.specs.Topology.{TopologyView, Node, Segment, IsSound, open_among}
 use Rattle.loom_topology.specs.Incidence.{list_at}
 
-abbrev pub node_of_place : Place → Node
-node_of_place place = record { harness = place.harness; branch = place.branch }
+abbrev pub node_of_data : NodeData → Node
+node_of_data kept = record { harness = kept.harness; branch = kept.branch }
 
 abbrev pub segment_of_link : Link → Segment
 segment_of_link link =
@@ -15,7 +15,7 @@ segment_of_link link =
 abbrev pub view_of : Inside → TopologyView
 view_of t =
     record {
-      nodes = map node_of_place t.places.items;
+      nodes = map node_of_data t.nodes.items;
       segments = map segment_of_link t.links.items;
       cavities = map (λ c. c.0) t.cavities.items;
     }

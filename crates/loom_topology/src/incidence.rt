@@ -63,7 +63,8 @@ impl Incidence {
     ) -> Result<(), NoMemory>
         requires from_in_range { from.0 < length self.old }
         requires to_in_range { to.0 < length self.old }
-        ensures ok { OnOk result (self.new ≡ with_at (with_at self.old from.0 segment.0) to.0 segment.0) }
+        ensures ok { OnOk result (self.new
+            ≡ with_at (with_at self.old from.0 segment.0) to.0 segment.0) }
         ensures err { OnErr result (self.new ≡ self.old) }
     {
         self.push(from, segment)?;
@@ -96,7 +97,8 @@ impl Incidence {
     /// Takes the last segment of a node's list away.
     fn pop(&mut self, node: NodeNo)
         requires { node.0 < length self.old }
-        ensures { self.new ≡ slice_set self.old node.0 (take (length (list_at self.old node.0) - 1) (list_at self.old node.0)) }
+        ensures { self.new ≡ slice_set self.old node.0
+            (take (length (list_at self.old node.0) - 1) (list_at self.old node.0)) }
     {
         self.lists[node.0 as usize].pop();
     }

@@ -33,7 +33,8 @@ impl Found {
     /// Adds a node, if it isn't there.
     fn add(&mut self, node: NodeNo) -> Result<(), NoMemory>
         requires { node.0 < length self.old.marks.items }
-        ensures { OnOk result (view_of_found self.new ≡ with_found (view_of_found self.old) node.0) }
+        ensures { OnOk result (view_of_found self.new
+            ≡ with_found (view_of_found self.old) node.0) }
     {
         if !self.marks[node.0 as usize] {
             self.marks[node.0 as usize] = true;
@@ -47,7 +48,8 @@ impl Found {
         requires sound { IsSound topology.now }
         requires count { length self.old.marks.items ≡ length topology.now.nodes }
         requires in_range { node.0 < length topology.now.nodes }
-        ensures { OnOk result (IsSpread topology.now node.0 (view_of_found self.old) (view_of_found self.new)) }
+        ensures { OnOk result (
+            IsSpread topology.now node.0 (view_of_found self.old) (view_of_found self.new)) }
     {
         for segment in topology.segments_at(node) {
             let end = topology.other_end(*segment, node).unwrap();
@@ -59,7 +61,9 @@ impl Found {
     /// The marked nodes, rising.
     fn rising(&self, alloc: Global) -> Result<List<NodeNo>, NoMemory>
         requires { length self.now.marks.items < 4294967296 }
-        ensures { IfOk result (λ list. map (λ v. v.0) list ≡ filter (is_marked (view_of_found self.now)) (range_with_len 0 (length self.now.marks.items))) }
+        ensures { IfOk result (λ list. map (λ v. v.0) list
+            ≡ filter (is_marked (view_of_found self.now))
+            (range_with_len 0 (length self.now.marks.items))) }
     {
         let mut list = List::new(alloc);
         for (number, is_marked) in self.marks.iter().enumerate() {
@@ -71,12 +75,14 @@ impl Found {
     }
 }
 
-/// The nodes that chains of open segments reach from a node: each node that is found leads to further ones.
+/// The nodes that chains of open segments reach from a node: each node that is found leads to
+/// further ones.
 pub fn found_from(alloc: Global, topology: &Topology, start: NodeNo) -> Result<Found, NoMemory>
     requires { start.0 < length topology.now.nodes }
     ensures count { IfOk result (λ found. length found.marks.items ≡ length topology.now.nodes) }
     ensures few { IfOk result (λ found. length found.marks.items ≤ 1024) }
-    ensures reached { IfOk result (λ found. (u : ℕ) → IsTrue (is_marked (view_of_found found) u) ↔ IsReached topology.now start.0 u) }
+    ensures reached { IfOk result (λ found. (u : ℕ) → IsTrue (is_marked (view_of_found found) u)
+        ↔ IsReached topology.now start.0 u) }
 {
     let mut found = Found::new(alloc, topology.node_count() as usize)?;
     found.add(start)?;
@@ -97,7 +103,8 @@ pub fn reached_from(
 ) -> Result<List<NodeNo>, NoMemory>
     requires { start.0 < length topology.now.nodes }
     ensures rising { IfOk result (λ nodes. IsStrictlyIncreasing (map (λ v. v.0) nodes)) }
-    ensures reached { IfOk result (λ nodes. (u : ℕ) → Contains (map (λ v. v.0) nodes) u ↔ IsReached topology.now start.0 u) }
+    ensures reached { IfOk result (λ nodes. (u : ℕ) → Contains (map (λ v. v.0) nodes) u
+        ↔ IsReached topology.now start.0 u) }
 {
     let found = found_from(alloc, topology, start)?;
     found.rising(alloc)

@@ -1,6 +1,6 @@
 ghost use Rattle.std.specs.Prelude.{◌≡◌, ◌<◌, ◌≤◌, ◌^◌, length, IfOk, IfSome};
 ghost use Rattle.std.specs.Option.{ForSome};
-ghost use Rattle.loom_topology.specs.Table.{IsWhole, cell_at, with_cell, empty_table, place_of_cell};
+ghost use Rattle.loom_topology.specs.Table.{IsWhole, cell_at, with_cell, empty_table, cell_index};
 ghost use Rattle.loom_topology.specs.TableInside.{value_of_code};
 
 use loom_base::{NoMemory, NodeNo};
@@ -74,7 +74,7 @@ impl Table {
         ensures value { result ≡ cell_at self.now mask node.0 }
         ensures small { IfSome result (λ value. value ≤ 2 ^ 40) }
     {
-        value_of(self.codes[self.place(mask, node)])
+        value_of(self.codes[self.index_of(mask, node)])
     }
 
     /// Sets the cell of a mask at a node.
@@ -85,8 +85,8 @@ impl Table {
         requires small { ForSome value (λ cost. cost ≤ 2 ^ 40) }
         ensures { self.new ≡ with_cell self.old mask node.0 value }
     {
-        let place = self.place(mask, node);
-        self.codes[place] = value.unwrap_or(NO_VALUE);
+        let index = self.index_of(mask, node);
+        self.codes[index] = value.unwrap_or(NO_VALUE);
     }
 
     /// An equal table.
@@ -101,11 +101,11 @@ impl Table {
     }
 
     /// Where a cell stands among the codes.
-    fn place(&self, mask: u32, node: NodeNo) -> usize
+    fn index_of(&self, mask: u32, node: NodeNo) -> usize
         requires mask_from { 1 ≤ mask }
         requires mask_to { mask ≤ self.now.masks }
         requires node_in_range { node.0 < self.now.nodes }
-        ensures value { result ≡ place_of_cell self.now mask node.0 }
+        ensures value { result ≡ cell_index self.now mask node.0 }
         ensures within { result < length self.now.cells }
     {
         (mask as usize - 1) * self.nodes as usize + node.0 as usize

@@ -1,22 +1,24 @@
-ghost use Rattle.std.specs.Prelude.{ℕ, ◌↔◌, ◌≡◌, ◌<◌, ◌≤◌, All, length, map, slice_get, slice_index, Ok, IfOk, IfErr, OnOk, OnErr, ◌≢◌};
+ghost use Rattle.std.specs.Prelude.{ℕ, ◌↔◌, ◌≡◌, ◌<◌, ◌≤◌, All, length, map, [], slice_get, slice_index, Ok, IfOk, IfErr, OnOk, OnErr, ◌≢◌};
 ghost use Rattle.std.specs.List.{Contains};
 ghost use Rattle.std.specs.List.Sorted.{IsStrictlyIncreasing};
 ghost use Rattle.std.specs.Option.{option_map};
 ghost use Rattle.loom_topology.specs.Topology.{IsSound, no_topology, with_node, with_cavity, with_segment, open_segment, shut_in, shut_among, IsSoundSegment, KeepsBorder, harness_at, branch_at, segment_at, price_at, node_of, open_at, other_end_at};
 ghost use Rattle.loom_topology.specs.Reach.{IsReached};
+ghost use Rattle.loom_topology.specs.Ways.{MarksCheapest, way_from};
 ghost use Rattle.loom_topology.specs.TopologyFault.{Gives, IsDue, number_of_new};
 ghost use Rattle.loom_topology.specs.TopologyInside.{segment_of_link, IsIndexed};
 
 use crate::incidence::Incidence;
 use crate::spreading::reached_from;
-use crate::{Kind, TopologyFault};
+use crate::ways::mark_cheapest;
+use crate::{Kind, TopologyFault, Way};
 use loom_base::{Branch, CavityNo, List, NoMemory, NodeNo, SegmentNo};
 use std::alloc::Global;
 use std::marker::Model;
 
 /// A node as it is kept.
 #[derive(Clone, Copy, Debug)]
-struct Place {
+struct NodeData {
     harness: u32,
     branch: u64,
 }
@@ -47,7 +49,7 @@ impl Link {
 /// Nodes that lie in harnesses, segments between them, and cavities at them.
 #[derive(Debug, Drop)]
 pub struct Topology {
-    places: Vec<Place>,
+    nodes: Vec<NodeData>,
     links: Vec<Link>,
     cavities: Vec<NodeNo>,
     incidence: Incidence,
@@ -71,7 +73,7 @@ impl Topology {
         ensures { result ≡ no_topology }
     {
         Topology {
-            places: Vec::new(alloc),
+            nodes: Vec::new(alloc),
             links: Vec::new(alloc),
             cavities: Vec::new(alloc),
             incidence: Incidence::new(alloc),
@@ -85,10 +87,10 @@ impl Topology {
         ensures added { OnOk result (self.new ≡ with_node self.old harness branch) }
         ensures refused { OnErr result (self.new ≡ self.old) }
     {
-        let number = self.places.len() as u32;
-        self.places.reserve(1)?;
+        let number = self.nodes.len() as u32;
+        self.nodes.reserve(1)?;
         self.incidence.add_node()?;
-        self.places.push(Place {
+        self.nodes.push(NodeData {
             harness,
             branch: branch.get(),
         })?;
@@ -137,7 +139,7 @@ impl Topology {
         ensures count { result ≡ length self.now.nodes }
         ensures sound { IsSound self.now }
     {
-        self.places.len() as u32
+        self.nodes.len() as u32
     }
 
     pub fn segment_count(&self) -> u32
@@ -160,7 +162,7 @@ impl Topology {
         ensures value { result ≡ branch_at self.now node.0 }
         ensures range { result ≤ 1000000 }
     {
-        self.places[node.0 as usize].branch
+        self.nodes[node.0 as usize].branch
     }
 
     /// The number of the harness in which a node lies.
@@ -168,7 +170,7 @@ impl Topology {
         requires { node.0 < length self.now.nodes }
         ensures { result ≡ harness_at self.now node.0 }
     {
-        self.places[node.0 as usize].harness
+        self.nodes[node.0 as usize].harness
     }
 
     /// The nodes that a segment joins, first its `from`, then its `to`.
@@ -222,6 +224,30 @@ impl Topology {
         }
     }
 
+    /// The way over a segment from one of its ends to the other.
+    pub fn way_from(&self, node: NodeNo, segment: SegmentNo) -> Way
+        requires { segment.0 < length self.now.segments }
+        ensures way { result ≡ way_from self.now node.0 segment.0 }
+        ensures to_in_range { result.to.0 < length self.now.nodes }
+        ensures range { result.price ≤ 1000000 }
+    {
+        let (from, to) = self.ends(segment);
+        Way {
+            from: node,
+            to: if from == node { to } else { from },
+            price: self.price(segment),
+        }
+    }
+
+    /// Marks exactly those segments that are the first of the cheapest open ones between their two
+    /// nodes, so that a search for least costs needs to look at no others.
+    pub fn mark_cheapest(&self, marks: &mut [bool])
+        requires { length self.now.segments ≤ length marks.old }
+        ensures { MarksCheapest self.now marks.new }
+    {
+        mark_cheapest(self, marks)
+    }
+
     /// The open segments at a node, rising.
     pub fn segments_at(&self, node: NodeNo) -> &[SegmentNo]
         requires { node.0 < length self.now.nodes }
@@ -242,7 +268,8 @@ impl Topology {
     pub fn reach(&self, node: NodeNo) -> Result<List<NodeNo>, NoMemory>
         requires { node.0 < length self.now.nodes }
         ensures rising { IfOk result (λ nodes. IsStrictlyIncreasing (map (λ v. v.0) nodes)) }
-        ensures reached { IfOk result (λ nodes. (u : ℕ) → Contains (map (λ v. v.0) nodes) u ↔ IsReached self.now node.0 u) }
+        ensures reached { IfOk result (λ nodes. (u : ℕ) → Contains (map (λ v. v.0) nodes) u
+            ↔ IsReached self.now node.0 u) }
     {
         reached_from(*self.links.allocator(), self, node)
     }
@@ -256,17 +283,18 @@ impl Topology {
         self.cavities[cavity.0 as usize]
     }
 
-    /// The same topology, in which these segments are shut as well as those that were.
+    /// The same topology, in which exactly these segments are shut, whichever were shut before.
     pub fn shut(&self, segments: &[SegmentNo]) -> Result<Topology, NoMemory>
         requires { All (λ s. s.0 < length self.now.segments) segments.now }
-        ensures value { IfOk result (λ shut. shut ≡ shut_in self.now (map (λ s. s.0) segments.now)) }
+        ensures value { IfOk result (λ shut.
+            shut ≡ shut_in self.now (map (λ s. s.0) segments.now)) }
         ensures count { IfOk result (λ shut. length shut.segments ≡ length self.now.segments) }
     {
         let alloc = *self.links.allocator();
         let links = with_shut(alloc, &self.links, segments)?;
         Ok(Topology {
-            places: Vec::from_slice(alloc, &self.places)?,
-            incidence: incidence_of(alloc, self.places.len(), &links)?,
+            nodes: Vec::from_slice(alloc, &self.nodes)?,
+            incidence: incidence_of(alloc, self.nodes.len(), &links)?,
             links,
             cavities: Vec::from_slice(alloc, &self.cavities)?,
         })
@@ -276,10 +304,12 @@ impl Topology {
     fn test(&self, from: NodeNo, to: NodeNo, kind: Kind) -> Result<(), TopologyFault>
         requires from_in_range { from.0 < length self.now.nodes }
         requires to_in_range { to.0 < length self.now.nodes }
-        ensures ok { OnOk result (number_of_new self.now from.0 to.0 kind ≡ Ok (length self.now.segments)) }
+        ensures ok { OnOk result (number_of_new self.now from.0 to.0 kind
+            ≡ Ok (length self.now.segments)) }
         ensures apart { OnOk result (from.0 ≢ to.0) }
         ensures border { OnOk result (KeepsBorder self.now (open_segment from.0 to.0 kind)) }
-        ensures err { IfErr result (λ fault. IsDue fault (number_of_new self.now from.0 to.0 kind)) }
+        ensures err { IfErr result (λ fault.
+            IsDue fault (number_of_new self.now from.0 to.0 kind)) }
     {
         if from == to {
             return Err(TopologyFault::EndsEqual);
@@ -293,20 +323,36 @@ impl Topology {
     }
 }
 
-/// A copy of the links, in which these are shut too.
+/// A copy of the links, of which exactly these are shut.
 fn with_shut(alloc: Global, links: &[Link], segments: &[SegmentNo]) -> Result<Vec<Link>, NoMemory>
     requires { All (λ s. s.0 < length links.now) segments.now }
-    ensures { IfOk result (λ copy. map segment_of_link copy.items ≡ shut_among (map segment_of_link links.now) (map (λ s. s.0) segments.now)) }
+    ensures { IfOk result (λ copy. map segment_of_link copy.items
+        ≡ shut_among (map segment_of_link links.now) (map (λ s. s.0) segments.now)) }
 {
-    let mut copy = Vec::from_slice(alloc, links)?;
+    let mut copy = opened(alloc, links)?;
     shut_links(&mut copy, segments);
+    Ok(copy)
+}
+
+/// A copy of the links, all of which are open.
+fn opened(alloc: Global, links: &[Link]) -> Result<Vec<Link>, NoMemory>
+    ensures { IfOk result (λ copy. map segment_of_link copy.items
+        ≡ shut_among (map segment_of_link links.now) []) }
+{
+    let mut copy = Vec::with_capacity(alloc, links.len())?;
+    for link in links {
+        copy.push(Link::new(link.from, link.to, link.kind))?;
+    }
     Ok(copy)
 }
 
 /// Shuts these links.
 fn shut_links(links: &mut [Link], segments: &[SegmentNo])
-    requires { All (λ s. s.0 < length links.old) segments.now }
-    ensures { map segment_of_link links.new ≡ shut_among (map segment_of_link links.old) (map (λ s. s.0) segments.now) }
+    requires in_range { All (λ s. s.0 < length links.old) segments.now }
+    requires are_open { map segment_of_link links.old
+        ≡ shut_among (map segment_of_link links.old) [] }
+    ensures { map segment_of_link links.new
+        ≡ shut_among (map segment_of_link links.old) (map (λ s. s.0) segments.now) }
 {
     for segment in segments {
         links[segment.0 as usize].is_open = false;
@@ -317,7 +363,8 @@ fn shut_links(links: &mut [Link], segments: &[SegmentNo])
 fn incidence_of(alloc: Global, node_count: usize, links: &[Link]) -> Result<Incidence, NoMemory>
     requires few { length links.now ≤ 4096 }
     requires sound { All (IsSoundSegment node_count) (map segment_of_link links.now) }
-    ensures { IfOk result (λ incidence. IsIndexed incidence node_count (map segment_of_link links.now)) }
+    ensures { IfOk result (λ incidence.
+        IsIndexed incidence node_count (map segment_of_link links.now)) }
 {
     let mut incidence = Incidence::with_nodes(alloc, node_count)?;
     for (number, link) in links.iter().enumerate() {

@@ -1,7 +1,8 @@
 use Rattle.std.proofs.Common.{length, ap, ◌∙◌}
 use Rattle.loom_topology.specs.Found.{FoundView, view_of_found}
 use Rattle.loom_topology.proofs.Found.{with_found-count}
-use Rattle.loom_topology.proofs.Spread.{IsSpreading-none, IsSpreading-more, IsSpread-from_all, seen_at, seen_below, seen_all, found_some, end_is, end_leads}
+use Rattle.loom_topology.proofs.OpenAt.{seen_at, seen_below, seen_all, found_some, end_is, end_leads}
+use Rattle.loom_topology.proofs.Spread.{IsSpreading-none, IsSpreading-more, IsSpread-from_all}
 use Rattle.loom_topology.proofs.spreading.Found.add_ends.Goals as goal
 
 pub loop-segment-init : goal.loop-segment-init
