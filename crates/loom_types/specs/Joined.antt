@@ -4,33 +4,35 @@ use Rattle.loom_types.specs.declared.wire.End.TheVariants.{Cavity, Splice, Pin}
 use Rattle.loom_types.specs.declared.wire.Wire.{Wire}
 
 -- an end in the whole harness: a splice belongs to its wire's net
-pub data Place : Type 0 where
-  AtCavity : (cavity : ℕ) → Place
-  AtSplice : (net node ordinal : ℕ) → Place
-  AtSide : (coupler pin side : ℕ) → Place
+pub data HarnessEnd : Type 0 where
+  AtCavity : (cavity : ℕ) → HarnessEnd
+  AtSplice : (net node ordinal : ℕ) → HarnessEnd
+  AtSide : (coupler pin side : ℕ) → HarnessEnd
 
-abbrev pub place_of : ℕ → End → Place
-place_of net (Cavity cavity) = AtCavity cavity.0
-place_of net (Splice node ordinal) = AtSplice net node.0 ordinal
-place_of net (Pin coupler pin side) = AtSide coupler.0 pin side
+abbrev pub harness_end : ℕ → End → HarnessEnd
+harness_end net (Cavity cavity) = AtCavity cavity.0
+harness_end net (Splice node ordinal) = AtSplice net node.0 ordinal
+harness_end net (Pin coupler pin side) = AtSide coupler.0 pin side
 
--- the places at which a wire ends
-abbrev pub start_of : Wire → Place
-start_of w = place_of w.net.0 w.from
+-- the two ends of a wire
+abbrev pub start_of : Wire → HarnessEnd
+start_of w = harness_end w.net.0 w.from
 
-abbrev pub finish_of : Wire → Place
-finish_of w = place_of w.net.0 w.to
+abbrev pub finish_of : Wire → HarnessEnd
+finish_of w = harness_end w.net.0 w.to
 
--- some wire of the list ends at the place
-abbrev pub EndsAt : List Wire → Place → Type 0
-EndsAt ws p = (w : Wire) × Contains ws w × ((start_of w ≡ p) ⊎ (finish_of w ≡ p))
+-- some wire of the list ends there
+abbrev pub EndsAt : List Wire → HarnessEnd → Type 0
+EndsAt ws e = (w : Wire) × Contains ws w × ((start_of w ≡ e) ⊎ (finish_of w ≡ e))
 
--- the two ends of one wire are linked, and so are the two sides of one pin where wires end at both
-pub data Linked (live : List Wire) : Place → Place → Type 0 where
+-- the two ends of one wire are linked, and so are sides 1 and 2 of one pin where wires end at both; a side of another number is linked to none
+pub data Linked (live : List Wire) : HarnessEnd → HarnessEnd → Type 0 where
   along : (w : Wire) → Contains live w → Linked live (start_of w) (finish_of w)
   back : (w : Wire) → Contains live w → Linked live (finish_of w) (start_of w)
-  across : (coupler pin s t : ℕ) → s ≢ t → EndsAt live (AtSide coupler pin s) → EndsAt live (AtSide coupler pin t)
-      → Linked live (AtSide coupler pin s) (AtSide coupler pin t)
+  across : (coupler pin : ℕ) → EndsAt live (AtSide coupler pin 1) → EndsAt live (AtSide coupler pin 2)
+      → Linked live (AtSide coupler pin 1) (AtSide coupler pin 2)
+  across_back : (coupler pin : ℕ) → EndsAt live (AtSide coupler pin 1) → EndsAt live (AtSide coupler pin 2)
+      → Linked live (AtSide coupler pin 2) (AtSide coupler pin 1)
 
 -- a chain of links, of any length
 pub data Chain {A : Type 0} (R : A → A → Type 0) : A → A → Type 0 where

@@ -6,8 +6,8 @@ use std::alloc::Global;
 /// How a live set's wiring tree lies over the topology.
 #[derive(Debug, Drop)]
 pub struct Layout {
-    /// The steps in order: the parent's point and the segment. Step k, counted from 0, adds point k + 1;
-    /// point 0 lies at the first cavity's node.
+    /// The steps in order: the parent's point and the segment. Step k, counted from 0, adds point k
+    /// + 1; point 0 lies at the first cavity's node.
     pub steps: List<(u32, SegmentNo)>,
     /// The point on which each cavity past the first hangs, in the order of the net's terminals.
     pub hangs: List<u32>,

@@ -4,10 +4,14 @@
 
 mod layout;
 mod plan;
+mod set_mask;
 mod stop;
+#[cfg(test)]
+mod tests;
 mod wire;
 
 pub use layout::Layout;
 pub use plan::{Module, PinLine, Plan, SetLine, TableLine};
+pub use set_mask::{rest, set_is_stem_and_rest, stem};
 pub use stop::PlanStop;
 pub use wire::{End, Wire};

@@ -4,7 +4,7 @@ use loom_formula::RowList;
 use loom_topology::Table;
 
 /// A live set of a net, with its least cost and its layout.
-#[derive(Drop)]
+#[derive(Debug, Drop)]
 pub struct SetLine {
     pub net: NetNo,
     /// Bit i stands for the net's terminal i.
@@ -27,14 +27,14 @@ pub struct PinLine {
 }
 
 /// The least costs of a net with a live set: its potentials.
-#[derive(Drop)]
+#[derive(Debug, Drop)]
 pub struct TableLine {
     pub net: NetNo,
     pub table: Table,
 }
 
 /// The wires of one harness that have one condition.
-#[derive(Drop)]
+#[derive(Debug, Drop)]
 pub struct Module {
     pub harness: u32,
     /// The number of the wires' condition.
@@ -44,7 +44,7 @@ pub struct Module {
 }
 
 /// The plan of a project.
-#[derive(Drop)]
+#[derive(Debug, Drop)]
 pub struct Plan {
     /// The rows of the conditions; condition 0 is never, 1 is always, the i-th row is i + 2.
     pub rows: RowList,

@@ -2,7 +2,7 @@ use loom_base::{CavityNo, List, NetNo, NodeNo, SegmentNo, Which};
 use loom_formula::Choice;
 
 /// Why a project has no plan.
-#[derive(Drop)]
+#[derive(Debug, Drop)]
 pub enum PlanStop {
     /// No choice is valid.
     NoChoice,

@@ -1,10 +1,12 @@
 ghost use Rattle.std.specs.Prelude.{◌≡◌, IfOk};
+ghost use Rattle.loom_types.specs.WireOrder.{end_cmp, wire_cmp};
 
 use loom_base::{CavityNo, List, NetNo, NoMemory, NodeNo, SegmentNo};
 use std::alloc::Global;
+use std::cmp::Ordering;
 
-/// An end of a wire. Ends are ordered: cavities by number, then splices by node and ordinal, then pins
-/// by coupler, pin and side.
+/// An end of a wire. Ends are ordered: cavities by number, then splices by node and ordinal, then
+/// pins by coupler, pin and side.
 #[derive(Clone, Copy, Debug, PartialEq, Eq, PartialOrd, Ord)]
 pub enum End {
     Cavity(CavityNo),
@@ -19,6 +21,15 @@ pub enum End {
         pin: u16,
         side: u32,
     },
+}
+
+impl End {
+    /// How the end stands to another in the order of ends.
+    pub fn order(&self, other: &End) -> Ordering
+        ensures { result ≡ end_cmp self.now other.now }
+    {
+        self.cmp(other)
+    }
 }
 
 /// A wire: a chain of runs between two ends.
@@ -38,6 +49,17 @@ pub struct Wire {
 }
 
 impl Wire {
+    /// How the wire stands to another in the order of wires: by net, from, to and route.
+    pub fn order(&self, other: &Wire) -> Ordering
+        ensures { result ≡ wire_cmp self.now other.now }
+    {
+        self.net
+            .cmp(&other.net)
+            .then(self.from.order(&other.from))
+            .then(self.to.order(&other.to))
+            .then(self.route.as_slice().cmp(other.route.as_slice()))
+    }
+
     /// The same wire.
     pub fn copy(&self, alloc: Global) -> Result<Wire, NoMemory>
         ensures { IfOk result (λ copy. copy ≡ self.now) }
