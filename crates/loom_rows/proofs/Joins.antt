@@ -1,12 +1,13 @@
 -- Two conditions joined part by part.
-use Rattle.std.proofs.Common.{◌≡◌, ℕ, ◌-◌, ◌<◌, ◌≤◌, ◌⊎◌, inl, inr, true, cond, eqb, Some, sym, ap, subst, ◌∙◌, arith, min, Result, Ok, Err}
-use Rattle.std.proofs.lemmas.Bool.{eqb-true, and_parts, cases_Bool}
+use Rattle.std.proofs.Common.{◌≡◌, ℕ, ◌-◌, ◌<◌, ◌≤◌, ◌⊎◌, inl, inr, Bool, true, false, cond, eqb, Some, refl, sym, ap, subst, ◌∙◌, arith, min, max, Result, Ok, Err}
+use Rattle.std.proofs.lemmas.Bool.{eqb-true, and_parts, cases_Bool, cases_eq}
 use Rattle.std.proofs.lemmas.Option.{same_Some}
 use Rattle.std.specs.HashMap.{HashMap, get, Updates}
 use Rattle.loom_rows.specs.declared.cond.Cond.{Cond}
 use Rattle.loom_rows.specs.declared.op.Op.{Op}
+use Rattle.loom_rows.specs.declared.op.Op.TheVariants.{And, Or, Differ}
 use Rattle.loom_rows.specs.declared.stop.RowsStop.{RowsStop}
-use Rattle.loom_rows.specs.Condition.{Meaning, value, number_of, first_option, low_at, high_at}
+use Rattle.loom_rows.specs.Condition.{Meaning, value, number_of, rising, first_option, low_at, high_at}
 use Rattle.loom_rows.specs.Table.{Table, Has}
 use Rattle.loom_rows.specs.Leftovers.{IsLeftover, Gains}
 use Rattle.loom_rows.specs.Outcome.{joins, joined, branch, IsAnswer, Outcome, IsNoted, IsMemo, ArePartsOf, pair_eq}
@@ -98,21 +99,54 @@ module _ (op : Op) (t : Table) (a b : Cond) (at : ℕ) (a_low b_low a_high b_hig
 
 -- ---- the memo
 
--- what is noted of two numbers holds of every two conditions of these numbers
-pub noted-answer : (op : Op) (t : Table) (a b : Cond) → Has t a → Has t b → (x : Cond) → IsNoted op t (number_of a, number_of b) x → IsAnswer (joined op (value a) (value b)) (first_of t.options a b) t x
+-- two numbers are those of a key in one of two orders
+pub rising-same : (x y p q : ℕ) → rising x y ≡ rising p q → ((x ≡ p) × (y ≡ q)) ⊎ ((x ≡ q) × (y ≡ p))
+rising-same x y p q e =
+    let lesser : min x y ≡ min p q = ap (λ k. k.0) e in
+    let greater : max x y ≡ max p q = ap (λ k. k.1) e in
+    elim (cases_eq x p) [
+      | inl same ↦ inl (same, omega arith)
+      | inr other ↦ inr (omega arith, omega arith)
+    ]
+
+joins-comm : (op : Op) (x y : Bool) → joins op x y ≡ joins op y x
+joins-comm And true true = refl
+joins-comm And true false = refl
+joins-comm And false true = refl
+joins-comm And false false = refl
+joins-comm Or true true = refl
+joins-comm Or true false = refl
+joins-comm Or false true = refl
+joins-comm Or false false = refl
+joins-comm Differ true true = refl
+joins-comm Differ true false = refl
+joins-comm Differ false true = refl
+joins-comm Differ false false = refl
+
+-- what is noted of two numbers holds of every two conditions of these numbers, in either order
+pub noted-answer : (op : Op) (t : Table) (a b : Cond) → Has t a → Has t b → (x : Cond) → IsNoted op t (rising (number_of a) (number_of b)) x → IsAnswer (joined op (value a) (value b)) (first_of t.options a b) t x
 noted-answer op t a b has_a has_b x n =
-    let p = ap (λ k. k.0) n.numbered in
-    let q = ap (λ k. k.1) n.numbered in
-    let v = same_value t.options t.rows n.a a n.has_a has_a p in
-    let w = same_value t.options t.rows n.b b n.has_b has_b q in
-    record {
-      has = n.noted.has;
-      valued = λ c. n.noted.valued c ∙ λ i. joins op (v i c) (w i c);
-      rises = omega (arith, n.noted.rises, same_first_option t.options t.rows n.a a n.has_a has_a p, same_first_option t.options t.rows n.b b n.has_b has_b q);
-    }
+    elim (rising-same (number_of n.a) (number_of n.b) (number_of a) (number_of b) n.numbered) [
+      | inl w ↦
+          let v = same_value t.options t.rows n.a a n.has_a has_a w.0 in
+          let u = same_value t.options t.rows n.b b n.has_b has_b w.1 in
+          record {
+            has = n.noted.has;
+            valued = λ c. n.noted.valued c ∙ λ i. joins op (v i c) (u i c);
+            rises = omega (arith, n.noted.rises, same_first_option t.options t.rows n.a a n.has_a has_a w.0, same_first_option t.options t.rows n.b b n.has_b has_b w.1);
+          }
+      | inr w ↦
+          let v = same_value t.options t.rows n.a b n.has_a has_b w.0 in
+          let u = same_value t.options t.rows n.b a n.has_b has_a w.1 in
+          record {
+            has = n.noted.has;
+            valued = λ c. n.noted.valued c ∙ (λ i. joins op (v i c) (u i c)) ∙ joins-comm op (value b c) (value a c);
+            rises = omega (arith, n.noted.rises, same_first_option t.options t.rows n.a b n.has_a has_b w.0, same_first_option t.options t.rows n.b a n.has_b has_a w.1);
+          }
+    ]
 
 -- the answer of a join is noted
-pub noted-new : (op : Op) (t u : Table) (a b : Cond) → Has t a → Has t b → (key : ℕ × ℕ) → key ≡ (number_of a, number_of b) → (x : Cond) → Outcome (joined op (value a) (value b)) (first_of t.options a b) t u (Ok x) → IsNoted op u key x
+pub noted-new : (op : Op) (t u : Table) (a b : Cond) → Has t a → Has t b → (key : ℕ × ℕ) → key ≡ rising (number_of a) (number_of b) → (x : Cond) → Outcome (joined op (value a) (value b)) (first_of t.options a b) t u (Ok x) → IsNoted op u key x
 noted-new op t u a b has_a has_b key key_is x o = record {
   a = a;
   b = b;

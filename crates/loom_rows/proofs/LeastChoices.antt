@@ -1,18 +1,19 @@
 -- The least choice for two conditions, from the least choices for their parts at an option.
-use Rattle.std.proofs.Common.{◌≡◌, ◌≢◌, ℕ, ◌+◌, ◌<◌, ◌⊎◌, inl, inr, Bool, true, false, cond, ◌&&◌, List, length, refl, sym, ap, subst, ◌∙◌, arith, IsTrue, slice_set, get_or}
+use Rattle.std.proofs.Common.{◌≡◌, ◌≢◌, ℕ, ◌+◌, ◌<◌, ◌⊎◌, inl, inr, Bool, true, false, cond, ◌&&◌, List, length, refl, sym, ap, subst, ◌∙◌, arith, IsTrue, slice_set, get_or, ◌==◌, if◌then◌else◌}
 use Rattle.std.specs.HashSet.{HashSet, contains, Updates}
 use Rattle.std.proofs.lemmas.List.{get_or-set_same, get_or-set_other}
-use Rattle.std.proofs.lemmas.Bool.{cases_Bool, cases_lt, cases_order, true≢false}
+use Rattle.std.proofs.lemmas.Bool.{cases_Bool, cases_eq, cases_lt, cases_order, eq-eqb, ne_eqb, and_parts, and_from, true≢false}
 use Rattle.loom_formula.specs.Choice.{choice_at, IsBefore}
-use Rattle.loom_rows.specs.declared.cond.Cond.{Cond, Never}
+use Rattle.loom_rows.specs.declared.cond.Cond.{Cond, Never, Always, Row'}
 use Rattle.loom_rows.specs.declared.op.Op.TheVariants.{And}
-use Rattle.loom_rows.specs.Condition.{Meaning, value, number_of, both}
+use Rattle.loom_rows.specs.Condition.{Meaning, value, number_of, rising, first_option, both}
 use Rattle.loom_rows.specs.Table.{Table, Has}
 use Rattle.loom_rows.specs.Leftovers.{set_before}
 use Rattle.loom_rows.specs.Outcome.{pair_eq, ArePartsOf}
-use Rattle.loom_rows.specs.Search.{IsClear, IsNever, IsFoundFrom, IsFailed, AreFailed}
+use Rattle.loom_rows.specs.Meet.{IsNever, IsPossible, Meet}
+use Rattle.loom_rows.specs.Search.{IsClear, IsFoundFrom, IsFailed, AreFailed}
 use Rattle.loom_rows.proofs.Conditions.{AgreeFrom, set_before-in, set_before-past, value-from, same_value, number-end}
-use Rattle.loom_rows.proofs.Joins.{first_of, pair_eq-true}
+use Rattle.loom_rows.proofs.Joins.{first_of, rising-same, pair_eq-true}
 
 both_true : (x y : Bool) → (x && y) ≡ true → x ≡ true
 both_true true y e = refl
@@ -95,13 +96,24 @@ module _ (t : Table) (a b : Cond) (has_a : Has t a) (has_b : Has t b) where
       off true = refl
       off false = refl
 
-  pub never-failed : (key : ℕ × ℕ) → key ≡ (number_of a, number_of b) → IsFailed t key → IsNever (both (value a) (value b))
+  pub never-failed : (key : ℕ × ℕ) → key ≡ rising (number_of a) (number_of b) → IsFailed t key → IsNever (both (value a) (value b))
   never-failed key e n c =
-      let p = ap (λ k. k.0) (n.numbered ∙ e) in
-      let q = ap (λ k. k.1) (n.numbered ∙ e) in
-      let v = same_value t.options t.rows n.a a n.has_a has_a p in
-      let w = same_value t.options t.rows n.b b n.has_b has_b q in
-      (λ i. sym v i c && sym w i c) ∙ n.never c
+      elim (rising-same (number_of n.a) (number_of n.b) (number_of a) (number_of b) (n.numbered ∙ e)) [
+        | inl w ↦
+            let v = same_value t.options t.rows n.a a n.has_a has_a w.0 in
+            let u = same_value t.options t.rows n.b b n.has_b has_b w.1 in
+            (λ i. sym v i c && sym u i c) ∙ n.never c
+        | inr w ↦
+            let v = same_value t.options t.rows n.a b n.has_a has_b w.0 in
+            let u = same_value t.options t.rows n.b a n.has_b has_a w.1 in
+            and_comm (value a c) (value b c) ∙ (λ i. sym v i c && sym u i c) ∙ n.never c
+      ]
+    where
+      and_comm : (x y : Bool) → (x && y) ≡ (y && x)
+      and_comm true true = refl
+      and_comm true false = refl
+      and_comm false true = refl
+      and_comm false false = refl
 
   module _ (at : ℕ) (a_low b_low a_high b_high : Cond) (parts : ArePartsOf And t a b at a_low b_low a_high b_high) where
     pub meets-low : (c : ℕ → Bool) → IsFoundFrom (both (value a_low) (value b_low)) (first_of t.options a_low b_low) c → IsFoundFrom (both (value a) (value b)) (first_of t.options a b) c
@@ -135,3 +147,74 @@ failed-insert t m n key failed updates here q at =
       | inl e ↦ subst (IsFailed t) (pair_eq-true key q e) here
       | inr e ↦ failed q (sym (ap (λ b. cond b true (contains pair_eq m q)) e) ∙ sym (updates.0 q) ∙ at)
     ]
+
+-- ---- without a choice
+
+module _ (t : Table) (a b : Cond) (has_a : Has t a) (has_b : Has t b) (at : ℕ) (a_low b_low a_high b_high : Cond) (parts : ArePartsOf And t a b at a_low b_low a_high b_high) where
+  both_hold : (f g : Meaning) (c : ℕ → Bool) → both f g c ≡ true → Meet f g
+  both_hold f g c e = let p = and_parts (f c) (g c) e in (c, p.0, p.1)
+
+  -- a condition that depends on later options alone holds with this one set as well
+  set_at : (x : Cond) → Has t x → at < first_option t.options x → (c : ℕ → Bool) (b : Bool) → value x (λ k. if k == at then b else c k) ≡ value x c
+  set_at x has rises c b =
+      value-from t.options t.rows x has (at + 1) (omega arith) (λ k. if k == at then b else c k) c
+      (λ k le. ap (λ e. if e then b else c k) (ne_eqb k at (λ e. absurd (omega arith))))
+
+  -- where the parts meet, the conditions meet
+  pub meet-low : Meet (value a_low) (value b_low) → Meet (value a) (value b)
+  meet-low (c, f, g) =
+      let d = λ (k : ℕ). if k == at then false else c k in
+      let here : d at ≡ false = ap (λ (e : Bool). if e then false else c at) (eq-eqb at at refl) in
+      both_hold (value a) (value b) d
+      (parts.split d ∙ ap (λ e. cond e (both (value a_high) (value b_high) d) (both (value a_low) (value b_low) d)) here
+      ∙ (λ i. set_at a_low parts.has_a_low (omega (arith, parts.low_rises)) c false i && set_at b_low parts.has_b_low (omega (arith, parts.low_rises)) c false i)
+      ∙ and_from (value a_low c) (value b_low c) f g)
+
+  pub meet-high : Meet (value a_high) (value b_high) → Meet (value a) (value b)
+  meet-high (c, f, g) =
+      let d = λ (k : ℕ). if k == at then true else c k in
+      let here : d at ≡ true = ap (λ (e : Bool). if e then true else c at) (eq-eqb at at refl) in
+      both_hold (value a) (value b) d
+      (parts.split d ∙ ap (λ e. cond e (both (value a_high) (value b_high) d) (both (value a_low) (value b_low) d)) here
+      ∙ (λ i. set_at a_high parts.has_a_high (omega (arith, parts.high_rises)) c true i && set_at b_high parts.has_b_high (omega (arith, parts.high_rises)) c true i)
+      ∙ and_from (value a_high c) (value b_high c) f g)
+
+-- a condition of a table that isn't number 0 holds under some choice
+pub holds_somewhere : (t : Table) (x : Cond) → Has t x → number_of x ≢ 0 → IsPossible (value x)
+holds_somewhere t Never has other = absurd (other refl)
+holds_somewhere t Always has other = (λ _. false, refl)
+holds_somewhere t (Row' p n option low high) (row, has_low, has_high) other =
+    elim (cases_eq (number_of high) 0) [
+      | inr some_high ↦
+          let (c, holds) = holds_somewhere t high has_high some_high in
+          let d = set_before (option.0 + 1) (λ _. true) c in (
+            d,
+            ap (λ b. if b then value high d else value low d) (set_before-in (option.0 + 1) (λ _. true) c option.0 (omega arith))
+                ∙ value-from t.options t.rows high has_high (option.0 + 1) (omega (arith, row.high_rises)) d c (λ k le. set_before-past (option.0 + 1) (λ _. true) c k le)
+                ∙ holds,
+          )
+      | inl none_high ↦
+          let (c, holds) = holds_somewhere t low has_low (λ none_low. row.apart (none_low ∙ sym none_high)) in
+          let d = set_before (option.0 + 1) (λ _. false) c in (
+            d,
+            ap (λ b. if b then value high d else value low d) (set_before-in (option.0 + 1) (λ _. false) c option.0 (omega arith))
+                ∙ value-from t.options t.rows low has_low (option.0 + 1) (omega (arith, row.low_rises)) d c (λ k le. set_before-past (option.0 + 1) (λ _. false) c k le)
+                ∙ holds,
+          )
+    ]
+
+-- number 0 is never
+pub number-never : (t : Table) (x : Cond) → Has t x → number_of x ≡ 0 → IsNever (value x)
+number-never t x has e c = ap (λ y. value y c) (sym (number-end t.options t.rows Never x tt has (omega arith) (sym e)))
+
+-- nothing is known of pairs that don't stand in an empty set
+pub failed-none : {S : Type 0} (t : Table) (m : HashSet (ℕ × ℕ) S) → ((key : ℕ × ℕ) → contains pair_eq m key ≡ false) → AreFailed t m
+failed-none t m none key at = absurd (true≢false (sym at ∙ none key))
+
+-- conditions that always hold meet
+pub meet-always : (t : Table) (a b : Cond) → Has t a → Has t b → number_of a ≡ 1 → number_of b ≡ 1 → Meet (value a) (value b)
+meet-always t a b has_a has_b e f = (
+  λ _. false,
+  ap (λ y. value y (λ _. false)) (sym (number-end t.options t.rows Always a tt has_a (omega arith) (sym e))),
+  ap (λ y. value y (λ _. false)) (sym (number-end t.options t.rows Always b tt has_b (omega arith) (sym f))),
+)

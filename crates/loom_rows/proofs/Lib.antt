@@ -12,3 +12,7 @@ pub mod Members
 pub mod WorkFolds
 pub mod TakeIn
 pub mod PrintSteps
+pub mod Disjunctions
+pub mod FormulaWork
+pub mod ReducedRows
+pub mod WorkLaws

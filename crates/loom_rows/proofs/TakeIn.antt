@@ -26,6 +26,10 @@ use Rattle.loom_rows.proofs.Progress.{Progress, progress-none, progress-step, pr
 pub row-at : (rows : List Row) (at : ℕ) (row : Row) → slice_get rows at ≡ Some row → row_at rows (at + 2) ≡ Some row
 row-at rows at row e = row_at-from_2 rows (at + 2) at refl ∙ e
 
+-- and the other way round
+pub number-row : (rows : List Row) (at : ℕ) (row : Row) → row_at rows (at + 2) ≡ Some row → slice_get rows at ≡ Some row
+number-row rows at row e = sym (row_at-from_2 rows (at + 2) at refl) ∙ e
+
 -- a number from 2 on is that of the row at its place
 pub at-row : (rows : List Row) (number : ℕ) → 2 ≤ number → row_at rows number ≡ slice_get rows (number - 2)
 at-row rows number le = row_at-from_2 rows number (number - 2) (omega arith)

@@ -3,7 +3,7 @@ use Rattle.std.proofs.Common.{◌≡◌, ℕ, ◌-◌, ◌⊎◌, inl, inr, Bool
 use Rattle.loom_rows.specs.declared.cond.Cond.{Cond, Never, Always, Row'}
 use Rattle.loom_rows.specs.declared.stop.RowsStop.{RowsStop}
 use Rattle.loom_rows.specs.declared.stop.RowsStop.TheVariants.{TooManyRows}
-use Rattle.loom_rows.specs.Condition.{Meaning, value, chosen}
+use Rattle.loom_rows.specs.Condition.{Meaning, value, option_holds}
 use Rattle.loom_rows.specs.Table.{Table, Has, IsSound}
 use Rattle.loom_rows.specs.Leftovers.{AreSame, IsOpen, IsLeftover, IsLeftoverOf, IsRowOf, AreMoreThan, IsIn, Gains, IsNeeded, StandsFor, Works}
 use Rattle.loom_rows.specs.Outcome.{IsAnswer, Outcome, branch}
@@ -60,8 +60,8 @@ value-one f g first old new (Ok x) e o = (o.answer.has, λ c. o.answer.valued c 
 value-one f g first old new (Err s) e o = tt
 
 -- to choose between never and always is the option, and to differ from always is not to hold
-pub branch-chosen : (option : ℕ) → branch option (λ c. false) (λ c. true) ≡ chosen option
-branch-chosen option = same (λ c. by (c option))
+pub branch-option_holds : (option : ℕ) → branch option (λ c. false) (λ c. true) ≡ option_holds option
+branch-option_holds option = same (λ c. by (c option))
   where
     by : (b : Bool) → cond b true false ≡ b
     by true = refl

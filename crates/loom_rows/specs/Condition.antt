@@ -1,4 +1,4 @@
-use Rattle.std.specs.Prelude.{ℕ, Bool, true, false, if◌then◌else◌, ◌==◌, ◌&&◌, ◌||◌, not}
+use Rattle.std.specs.Prelude.{ℕ, Bool, true, false, if◌then◌else◌, ◌==◌, ◌&&◌, ◌||◌, not, min, max}
 use Rattle.loom_rows.specs.declared.cond.Cond.{Cond, Never, Always, Row'}
 
 -- what a condition says of each choice of the options
@@ -16,6 +16,10 @@ abbrev pub number_of : Cond → ℕ
 number_of Never = 0
 number_of Always = 1
 number_of (Row' p number option low high) = number
+
+-- two numbers, the lesser first
+abbrev pub rising : ℕ → ℕ → ℕ × ℕ
+rising one other = (min one other, max one other)
 
 -- the first option on which a condition depends, or the number of options where it depends on none
 abbrev pub first_option : ℕ → Cond → ℕ
@@ -36,8 +40,8 @@ high_at at Always = Always
 high_at at (Row' p number option low high) = if option.0 == at then high else Row' p number option low high
 
 -- the condition that is an option
-abbrev pub chosen : ℕ → Meaning
-chosen option c = c option
+abbrev pub option_holds : ℕ → Meaning
+option_holds option c = c option
 
 -- the condition that holds where both do
 abbrev pub both : Meaning → Meaning → Meaning

@@ -3,9 +3,13 @@ pub mod Table
 pub mod Leftovers
 pub mod Inside
 pub mod Outcome
+pub mod Meet
 pub mod Search
 pub mod Formulas
+pub mod Disjunction
 pub mod RowLists
+pub mod Reduced
+pub mod Laws
 pub mod Taken
 pub mod Printed
 pub mod Printing

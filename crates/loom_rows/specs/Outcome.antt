@@ -5,7 +5,7 @@ use Rattle.loom_rows.specs.declared.op.Op.{Op}
 use Rattle.loom_rows.specs.declared.op.Op.TheVariants.{And, Or, Differ}
 use Rattle.loom_rows.specs.declared.stop.RowsStop.{RowsStop}
 use Rattle.loom_rows.specs.declared.stop.RowsStop.TheVariants.{TooManyRows}
-use Rattle.loom_rows.specs.Condition.{Meaning, value, number_of, first_option}
+use Rattle.loom_rows.specs.Condition.{Meaning, value, number_of, rising, first_option}
 use Rattle.loom_rows.specs.Table.{Triple, Table, Has, IsSound}
 use Rattle.loom_rows.specs.Leftovers.{AreSame, IsOpen, IsIn, IsLeftover, Gains}
 
@@ -48,13 +48,13 @@ pub record Outcome (f : Meaning) (first : ℕ) (old new : Table) (result : Resul
   pub answer : IfOk result (IsAnswer f first new)
   pub refusal : result ≡ Err TooManyRows → Lacks f new
 
--- the memo's answer for two numbers is right for two conditions of these numbers
+-- the memo's answer for two numbers is right for two conditions of these numbers, in either order
 pub record IsNoted (op : Op) (t : Table) (key : ℕ × ℕ) (x : Cond) : Type 0 where
   pub a : Cond
   pub b : Cond
   pub has_a : Has t a
   pub has_b : Has t b
-  pub numbered : (number_of a, number_of b) ≡ key
+  pub numbered : rising (number_of a) (number_of b) ≡ key
   pub noted : IsAnswer (joined op (value a) (value b)) (min (first_option t.options a) (first_option t.options b)) t x
 
 -- x is a row with this number, option and parts

@@ -1,11 +1,12 @@
 ghost use Rattle.std.specs.Prelude.{◌≡◌};
-ghost use Rattle.loom_rows.specs.Condition.{value, number_of, first_option, low_at, high_at};
+ghost use Rattle.loom_rows.specs.Condition.{value, number_of, rising, first_option, low_at, high_at};
 ghost use Rattle.loom_formula.specs.Choice.{choice_at};
 
 use loom_base::OptionNo;
 use loom_formula::Choice;
 
-/// A condition over the options, in the arena of the table that made it. Contracts see the tree of its rows.
+/// A condition over the options, in the arena of the table that made it. Contracts see the tree of
+/// its rows.
 #[derive(Clone, Copy)]
 #[cycle(cond)]
 pub enum Cond<'a> {
@@ -14,8 +15,8 @@ pub enum Cond<'a> {
     Row(&'a Row<'a>),
 }
 
-/// A decision row: the condition `low` where the option is false, and `high` where it is true. Rows are numbered from 2
-/// on, in the order in which they were made.
+/// A decision row: the condition `low` where the option is false, and `high` where it is true. Rows
+/// are numbered from 2 on, in the order in which they were made.
 #[derive(Clone, Copy)]
 #[cycle(cond)]
 pub struct Row<'a> {
@@ -35,6 +36,15 @@ impl<'a> Cond<'a> {
             Cond::Always => 1,
             Cond::Row(row) => row.number,
         }
+    }
+
+    /// The numbers of two conditions, the lesser first: a key for what the two are together.
+    pub(crate) fn pair_with(self, other: Cond<'a>) -> (u32, u32)
+        ensures { result ≡ rising (number_of self.entry) (number_of other.entry) }
+    {
+        let first = self.number();
+        let second = other.number();
+        (first.min(second), first.max(second))
     }
 
     /// The first option on which it depends, or the number of options.

@@ -1,13 +1,16 @@
-ghost use Rattle.std.specs.Prelude.{◌≡◌, ◌≤◌, ◌<◌, ◌↔◌, List, ◌∷◌, [], IsTrue, IfOk, length};
+ghost use Rattle.std.specs.Prelude.{◌≡◌, ◌≤◌, ◌<◌, ◌↔◌, List, ◌∷◌, [], false, IsTrue, IfOk, length};
 ghost use Rattle.loom_formula.specs.Choice.{choice_at};
-ghost use Rattle.loom_rows.specs.Condition.{Meaning, value, number_of, chosen, both, either, negation};
+ghost use Rattle.loom_rows.specs.Condition.{Meaning, value, number_of, option_holds, both, either, negation};
 ghost use Rattle.loom_rows.specs.Table.{Has, IsSound};
+ghost use Rattle.loom_rows.specs.Meet.{IsNever, IsPossible};
 ghost use Rattle.loom_rows.specs.Leftovers.{AreSame, AreExactly, IsRowOf, StandsFor, Works};
 
+mod any;
 mod formula;
 mod join;
 mod list;
 mod make;
+mod meet;
 mod meets;
 mod take_in;
 
@@ -21,8 +24,9 @@ use loom_formula::Choice;
 use std::alloc::{AllocError, Global};
 use std::marker::Model;
 
-/// The shared rows of one job, in the caller's arena. Contracts see a table: the number of options, the limit on rows,
-/// and each row's option with the numbers of its two parts. A condition that is handed to a call is one of this table's.
+/// The shared rows of one job, in the caller's arena. Contracts see a table: the number of options,
+/// the limit on rows, and each row's option with the numbers of its two parts. A condition that is
+/// handed to a call is one of this table's.
 #[derive(Drop)]
 pub struct Rows<'a> {
     alloc: Global,
@@ -65,7 +69,8 @@ impl<'a> Rows<'a> {
     pub fn row_count(&self) -> u32
         ensures length { result ≡ length self.now.rows }
         ensures sound { IsSound self.now }
-        ensures counted { (fs : List Meaning) → StandsFor self.now fs → AreExactly result (IsRowOf fs) }
+        ensures counted { (fs : List Meaning) → StandsFor self.now fs
+            → AreExactly result (IsRowOf fs) }
     {
         self.index.len() as u32
     }
@@ -85,8 +90,18 @@ impl<'a> Rows<'a> {
         ensures same { IsTrue result ↔ AreSame (value a.entry) (value b.entry) }
         ensures number { IsTrue result ↔ (number_of a.entry ≡ number_of b.entry) }
     {
+        // A part is read, so that what holds of every table is known.
         let _ = &self.index;
         a.number() == b.number()
+    }
+
+    /// Whether no choice makes the condition hold.
+    pub fn is_never(&self, cond: Cond<'a>) -> bool
+        requires { Has self.now cond }
+        ensures never { IsTrue result → IsNever (value cond.entry) }
+        ensures some { result ≡ false → IsPossible (value cond.entry) }
+    {
+        cond.number() == 0
     }
 
     /// The condition that holds exactly where the option is true.
@@ -95,8 +110,9 @@ impl<'a> Rows<'a> {
     /// limit.
     pub fn is(&mut self, option: OptionNo) -> Result<Cond<'a>, RowsStop>
         requires { option.0 < self.old.options }
-        ensures value { IfOk result (λ x. Has self.new x × AreSame (value x) (chosen option.0)) }
-        ensures works { Works (chosen option.0 ∷ []) self.old self.new result }
+        ensures value { IfOk result (λ x.
+            Has self.new x × AreSame (value x) (option_holds option.0)) }
+        ensures works { Works (option_holds option.0 ∷ []) self.old self.new result }
     {
         self.make(option.0, Cond::Never, Cond::Always)
     }
@@ -105,7 +121,8 @@ impl<'a> Rows<'a> {
     pub fn and(&mut self, a: Cond<'a>, b: Cond<'a>) -> Result<Cond<'a>, RowsStop>
         requires has_a { Has self.old a }
         requires has_b { Has self.old b }
-        ensures value { IfOk result (λ x. Has self.new x × AreSame (value x) (both (value a.entry) (value b.entry))) }
+        ensures value { IfOk result (λ x.
+            Has self.new x × AreSame (value x) (both (value a.entry) (value b.entry))) }
         ensures works { Works (both (value a.entry) (value b.entry) ∷ []) self.old self.new result }
     {
         self.join(Op::And, a, b)
@@ -115,8 +132,10 @@ impl<'a> Rows<'a> {
     pub fn or(&mut self, a: Cond<'a>, b: Cond<'a>) -> Result<Cond<'a>, RowsStop>
         requires has_a { Has self.old a }
         requires has_b { Has self.old b }
-        ensures value { IfOk result (λ x. Has self.new x × AreSame (value x) (either (value a.entry) (value b.entry))) }
-        ensures works { Works (either (value a.entry) (value b.entry) ∷ []) self.old self.new result }
+        ensures value { IfOk result (λ x.
+            Has self.new x × AreSame (value x) (either (value a.entry) (value b.entry))) }
+        ensures works { Works
+            (either (value a.entry) (value b.entry) ∷ []) self.old self.new result }
     {
         self.join(Op::Or, a, b)
     }
@@ -124,7 +143,8 @@ impl<'a> Rows<'a> {
     /// The condition that holds where this one doesn't; it refuses as `is` does.
     pub fn not(&mut self, a: Cond<'a>) -> Result<Cond<'a>, RowsStop>
         requires { Has self.old a }
-        ensures value { IfOk result (λ x. Has self.new x × AreSame (value x) (negation (value a.entry))) }
+        ensures value { IfOk result (λ x.
+            Has self.new x × AreSame (value x) (negation (value a.entry))) }
         ensures works { Works (negation (value a.entry) ∷ []) self.old self.new result }
     {
         self.join(Op::Differ, Cond::Always, a)

@@ -4,7 +4,8 @@ use std::alloc::{AllocError, AllocFailed};
 /// Why a call made no condition.
 #[derive(Clone, Copy, Debug, PartialEq, Eq)]
 pub enum RowsStop {
-    /// The rows that the call's conditions need, with those that are there, are more than the limit.
+    /// The rows that the call's conditions need, with those that are there, are more than the
+    /// limit.
     TooManyRows,
     NoMemory,
 }

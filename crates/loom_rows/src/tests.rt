@@ -1,6 +1,6 @@
-ghost use Rattle.std.specs.Prelude.{◌≡◌, ◌≤◌, length};
+ghost use Rattle.std.specs.Prelude.{◌≡◌, ◌≤◌, ◌<◌, length};
 
-use crate::{Rows, RowsStop};
+use crate::{Meetings, Rows, RowsStop, first_unreduced};
 use bumpalo::Bump;
 use loom_base::{List, Name, NoMemory, OptionNo};
 use loom_formula::{Choice, Formula, Members, Options, RowList};
@@ -34,7 +34,8 @@ fn a_and_b(alloc: Global) -> Result<Options, Fail> {
     Ok(options)
 }
 
-/// How many rows an option, another, one of the two and neither have, and whether the last two are the same.
+/// How many rows an option, another, one of the two and neither have, and whether the last two are
+/// the same.
 fn one_or_neither(alloc: Global, arena: &Bump) -> Result<(u32, bool), RowsStop> {
     let mut rows = Rows::new(alloc, arena, 2, 262_144);
     let a = rows.is(OptionNo(0))?;
@@ -69,7 +70,8 @@ fn equal_conditions_are_the_same(rt: HostRuntime) -> Result<(), Fail> {
     Ok(())
 }
 
-/// The least choice of three options in which the first two hold, and the value of the second under it.
+/// The least choice of three options in which the first two hold, and the value of the second under
+/// it.
 fn met(alloc: Global, arena: &Bump) -> Result<Option<(Choice, bool)>, RowsStop> {
     let mut rows = Rows::new(alloc, arena, 3, 262_144);
     let a = rows.is(OptionNo(0))?;
@@ -93,7 +95,8 @@ fn conditions_meet_at_the_least_choice(rt: HostRuntime) -> Result<(), Fail> {
     Ok(())
 }
 
-/// The printed rows and numbers of "valid and A" and "valid and B", where the one rule says which choices are valid.
+/// The printed rows and numbers of "valid and A" and "valid and B", where the one rule says which
+/// choices are valid.
 fn printed(
     alloc: Global,
     arena: &Bump,
@@ -128,7 +131,8 @@ fn printed_rows_are_walked_low_part_first(rt: HostRuntime) -> Result<(), Fail> {
     Ok(())
 }
 
-/// How many conditions the printed rows of "both" are in another table, and how many rows there are then.
+/// How many conditions the printed rows of "both" are in another table, and how many rows there are
+/// then.
 fn taken_in(alloc: Global, arena: &Bump) -> Result<(usize, u32), RowsStop> {
     let mut rows = Rows::new(alloc, arena, 2, 262_144);
     let a = rows.is(OptionNo(0))?;
@@ -173,6 +177,13 @@ fn options_of_pairs(alloc: Global, pairs: u16) -> Result<Options, Fail> {
     let mut options = Options::new(alloc);
     add_numbered(alloc, &mut options, "A", pairs)?;
     add_numbered(alloc, &mut options, "B", pairs)?;
+    Ok(options)
+}
+
+/// The options A1, A2 and so on.
+fn options_of_letter(alloc: Global, numbers: u16) -> Result<Options, Fail> {
+    let mut options = Options::new(alloc);
+    add_numbered(alloc, &mut options, "A", numbers)?;
     Ok(options)
 }
 
@@ -227,5 +238,92 @@ fn eighteen_pairs_have_too_many_rows(rt: HostRuntime) -> Result<(), Fail> {
     let (too_many, count) = tried(alloc, &arena, 262_144, &options, &formula);
     assert!(rt; too_many);
     assert_eq!(rt; count, 262_144);
+    Ok(())
+}
+
+/// That an odd number of the options A1, A2 and so on is true.
+fn odd(alloc: Global, numbers: u16) -> Result<Formula, Fail> {
+    let mut odd = Formula::Never;
+    for at in 0..numbers {
+        let option = numbered(alloc, "A", at as u32 + 1)?;
+        odd = Formula::One(two(alloc, Formula::Is(option), odd)?);
+    }
+    Ok(odd)
+}
+
+/// Whether a condition and its negation make a condition that is never, meet at no choice, and
+/// don't meet.
+fn excluded(
+    alloc: Global,
+    arena: &Bump,
+    options: &Options,
+    formula: &Formula,
+) -> Result<(bool, bool, bool), RowsStop> {
+    let mut rows = Rows::new(alloc, arena, options.count(), 262_144);
+    let cond = rows.of_formula(options, formula)?;
+    let without = rows.not(cond)?;
+    let both = rows.and(cond, without)?;
+    let choice = rows.meets(cond, without)?;
+    let meet = Meetings::new(&rows).meet(cond, without)?;
+    Ok((rows.is_never(both), choice.is_none(), !meet))
+}
+
+/// The parts of these conditions are alike in two ways at each option, so a walk that forgets where
+/// it was takes 2^60 steps.
+#[test]
+fn odd_and_even_numbers_of_sixty_options_exclude_each_other(rt: HostRuntime) -> Result<(), Fail> {
+    let alloc = rt.alloc();
+    let arena = Bump::new(alloc);
+    let options = options_of_letter(alloc, 60)?;
+    let formula = odd(alloc, 60)?;
+    assert_eq!(rt;
+        excluded(alloc, &arena, &options, &formula)?,
+        (true, true, true)
+    );
+    Ok(())
+}
+
+/// How many rows there are after an option, another, and that one of the two or neither holds;
+/// whether the last is the same as one of the two, which meets the first option.
+fn some_of_two(alloc: Global, arena: &Bump) -> Result<(u32, bool, bool), RowsStop> {
+    let mut rows = Rows::new(alloc, arena, 2, 262_144);
+    let a = rows.is(OptionNo(0))?;
+    let b = rows.is(OptionNo(1))?;
+    let any = rows.any_of(&[a, b])?;
+    let either = rows.or(a, b)?;
+    let meet = Meetings::new(&rows).meet(any, a)?;
+    Ok((rows.row_count(), rows.same(any, either), meet))
+}
+
+#[test]
+fn conditions_are_joined_in_order(rt: HostRuntime) -> Result<(), Fail> {
+    let arena = Bump::new(rt.alloc());
+    assert_eq!(rt; some_of_two(rt.alloc(), &arena)?, (3, true, true));
+    Ok(())
+}
+
+/// A list of rows, as far as their parts are below them.
+fn row_list(alloc: Global, rows: &[(u32, u32, u32)]) -> Result<RowList, Fail>
+    requires { length rows.now < 9 }
+{
+    let mut list = RowList::new(alloc);
+    for (option, low, high) in rows {
+        if list.count() < 9 {
+            list.push(*option, *low, *high)?;
+        }
+    }
+    Ok(list)
+}
+
+#[test]
+fn the_first_row_that_is_not_reduced_is_found(rt: HostRuntime) -> Result<(), Fail> {
+    let alloc = rt.alloc();
+    let repeated = row_list(alloc, &[(0, 1, 0), (0, 1, 0)])?;
+    assert_eq!(rt; first_unreduced(alloc, 1, &repeated)?, Some(3));
+    let falling = row_list(alloc, &[(0, 1, 0), (1, 0, 2)])?;
+    assert_eq!(rt; first_unreduced(alloc, 2, &falling)?, Some(3));
+    let reduced = row_list(alloc, &[(1, 1, 0), (0, 0, 2)])?;
+    assert_eq!(rt; first_unreduced(alloc, 2, &reduced)?, None);
+    assert_eq!(rt; first_unreduced(alloc, 1, &reduced)?, Some(2));
     Ok(())
 }

@@ -19,11 +19,12 @@ struct Counted<'a> {
 }
 
 impl<'a> Rows<'a> {
-    /// The condition of a formula, which has the formula's value under every choice. It works out the conditions of
-    /// the formula's parts in order, and refuses as `is` does.
+    /// The condition of a formula, which has the formula's value under every choice. It works out
+    /// the conditions of the formula's parts in order, and refuses as `is` does.
     pub fn of_formula(&mut self, options: &Options, formula: &Formula) -> Result<Cond<'a>, RowsStop>
         requires { length options.now ≡ self.old.options }
-        ensures value { IfOk result (λ x. Has self.new x × AreSame (value x) (meaning_of options.now formula.now)) }
+        ensures value { IfOk result (λ x.
+            Has self.new x × AreSame (value x) (meaning_of options.now formula.now)) }
         ensures works { Works (worked_of options.now formula.now) self.old self.new result }
     {
         self.worked(options, formula)
@@ -35,15 +36,18 @@ impl<'a> Rows<'a> {
         requires { length options.now ≡ self.old.options }
         ensures has { IfOk result (λ x. Has self.new x) }
         ensures value { IfOk result (λ x. AreSame (value x) (meaning_of options.now formula.now)) }
-        ensures meaning { IfOk result (λ x. AreSame (value x) (work_of options.now formula.now).meaning) }
+        ensures meaning { IfOk result (λ x.
+            AreSame (value x) (work_of options.now formula.now).meaning) }
         ensures works { Works (work_of options.now formula.now).worked self.old self.new result }
     {
         match formula {
             Formula::Always => {
+                // A part is read, so that what holds of every table is known.
                 let _ = &self.index;
                 Ok(Cond::Always)
             }
             Formula::Never => {
+                // A part is read, so that what holds of every table is known.
                 let _ = &self.index;
                 Ok(Cond::Never)
             }
@@ -52,23 +56,26 @@ impl<'a> Rows<'a> {
                 let inner = self.worked(options, inner.get())?;
                 self.not(inner)
             }
-            Formula::And(members) => self.all_of(options, members),
-            Formula::Or(members) => self.any_of(options, members),
-            Formula::One(members) => self.one_of(options, members),
+            Formula::And(members) => self.all_members(options, members),
+            Formula::Or(members) => self.some_member(options, members),
+            Formula::One(members) => self.one_member(options, members),
         }
     }
 
     /// The condition that all members hold.
     #[cycle(worked)]
-    fn all_of(&mut self, options: &Options, members: &Members) -> Result<Cond<'a>, RowsStop>
+    fn all_members(&mut self, options: &Options, members: &Members) -> Result<Cond<'a>, RowsStop>
         requires { length options.now ≡ self.old.options }
         ensures has { IfOk result (λ x. Has self.new x) }
-        ensures value { IfOk result (λ x. AreSame (value x) (all_hold options.now (members_of members.now))) }
+        ensures value { IfOk result (λ x.
+            AreSame (value x) (all_hold options.now (members_of members.now))) }
         ensures meaning { IfOk result (λ x. AreSame (value x)
             (all_work always (map (work_of options.now) (members_of members.now))).meaning) }
-        ensures works { Works (all_work always (map (work_of options.now) (members_of members.now))).worked
+        ensures works { Works
+            (all_work always (map (work_of options.now) (members_of members.now))).worked
             self.old self.new result }
     {
+        // A part is read, so that what holds of every table is known.
         let _ = &self.index;
         let mut all = Cond::Always;
         for member in members.as_slice() {
@@ -80,15 +87,18 @@ impl<'a> Rows<'a> {
 
     /// The condition that some member holds.
     #[cycle(worked)]
-    fn any_of(&mut self, options: &Options, members: &Members) -> Result<Cond<'a>, RowsStop>
+    fn some_member(&mut self, options: &Options, members: &Members) -> Result<Cond<'a>, RowsStop>
         requires { length options.now ≡ self.old.options }
         ensures has { IfOk result (λ x. Has self.new x) }
-        ensures value { IfOk result (λ x. AreSame (value x) (any_holds options.now (members_of members.now))) }
+        ensures value { IfOk result (λ x.
+            AreSame (value x) (any_holds options.now (members_of members.now))) }
         ensures meaning { IfOk result (λ x. AreSame (value x)
             (any_work never (map (work_of options.now) (members_of members.now))).meaning) }
-        ensures works { Works (any_work never (map (work_of options.now) (members_of members.now))).worked
+        ensures works { Works
+            (any_work never (map (work_of options.now) (members_of members.now))).worked
             self.old self.new result }
     {
+        // A part is read, so that what holds of every table is known.
         let _ = &self.index;
         let mut any = Cond::Never;
         for member in members.as_slice() {
@@ -100,15 +110,18 @@ impl<'a> Rows<'a> {
 
     /// The condition that exactly one member holds.
     #[cycle(worked)]
-    fn one_of(&mut self, options: &Options, members: &Members) -> Result<Cond<'a>, RowsStop>
+    fn one_member(&mut self, options: &Options, members: &Members) -> Result<Cond<'a>, RowsStop>
         requires { length options.now ≡ self.old.options }
         ensures has { IfOk result (λ x. Has self.new x) }
-        ensures value { IfOk result (λ x. AreSame (value x) (one_holds options.now (members_of members.now))) }
+        ensures value { IfOk result (λ x.
+            AreSame (value x) (one_holds options.now (members_of members.now))) }
         ensures meaning { IfOk result (λ x. AreSame (value x)
             (one_work never always (map (work_of options.now) (members_of members.now))).meaning) }
-        ensures works { Works (one_work never always (map (work_of options.now) (members_of members.now))).worked
+        ensures works { Works
+            (one_work never always (map (work_of options.now) (members_of members.now))).worked
             self.old self.new result }
     {
+        // A part is read, so that what holds of every table is known.
         let _ = &self.index;
         let mut one = Cond::Never;
         let mut none = Cond::Always;
@@ -131,7 +144,8 @@ impl<'a> Rows<'a> {
         requires has_one { Has self.old one }
         requires has_none { Has self.old none }
         requires has_member { Has self.old member }
-        ensures has { IfOk result (λ counted. Has self.new counted.one × Has self.new counted.none) }
+        ensures has { IfOk result (λ counted.
+            Has self.new counted.one × Has self.new counted.none) }
         ensures one { IfOk result (λ counted. AreSame (value counted.one)
             (one_next (value one.entry) (value none.entry) (value member.entry))) }
         ensures none { IfOk result (λ counted. AreSame (value counted.none)
@@ -154,6 +168,7 @@ impl<'a> Rows<'a> {
         ensures value { IfOk result (λ x. AreSame (value x) (λ c. is_chosen options.now c name)) }
         ensures works { Works ((λ c. is_chosen options.now c name) ∷ []) self.old self.new result }
     {
+        // A part is read, so that what holds of every table is known.
         let _ = &self.index;
         match options.position(name) {
             Some(option) => self.is(option),

@@ -30,7 +30,8 @@ impl<'a> Rows<'a> {
         }
     }
 
-    /// The two conditions joined, option by option; the memo keeps what was joined already.
+    /// The two conditions joined, option by option; the memo keeps what was joined already, in
+    /// either order.
     fn apply(
         &mut self,
         op: Op,
@@ -50,7 +51,7 @@ impl<'a> Rows<'a> {
         if let Some(end) = op.at_end(a, b) {
             return Ok(end);
         }
-        let key = (a.number(), b.number());
+        let key = a.pair_with(b);
         if let Some(cond) = memo.get(&key) {
             return Ok(*cond);
         }

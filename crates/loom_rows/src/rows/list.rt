@@ -12,11 +12,13 @@ use loom_formula::{RowFault, RowList};
 use std::collections::HashMap;
 
 impl<'a> Rows<'a> {
-    /// The printed rows of the conditions, and the number of each condition. Each condition in order is walked: its
-    /// low part, its high part, then the row itself, and what has a number is left out.
+    /// The printed rows of the conditions, and the number of each condition. Each condition in
+    /// order is walked: its low part, its high part, then the row itself, and what has a number is
+    /// left out.
     pub fn list(&self, conds: &[Cond<'a>]) -> Result<(RowList, List<u32>), NoMemory>
         requires { AreHad self.now conds.now }
-        ensures printed { IfOk result (λ printed. IsPrinted (map value conds.now) printed.0 printed.1) }
+        ensures printed { IfOk result (λ printed.
+            IsPrinted (map value conds.now) printed.0 printed.1) }
         ensures options { IfOk result (λ printed. AreOptionsBelow self.now.options printed.0) }
     {
         let mut rows = RowList::new(self.alloc);
@@ -39,7 +41,9 @@ impl<'a> Rows<'a> {
         requires has { Has self.now cond }
         requires sound { IsSound self.now }
         requires printing { IsPrinting self.now rows.old (known_by known.old) }
-        ensures { IfOk result (IsPrintStep self.now rows.old rows.new (known_by known.old) (known_by known.new) cond.entry) }
+        ensures { IfOk result
+            (IsPrintStep self.now rows.old rows.new (known_by known.old)
+            (known_by known.new) cond.entry) }
     {
         let row = match cond {
             Cond::Never => return Ok(0),
@@ -63,7 +67,8 @@ fn append(rows: &mut RowList, option: u32, low: u32, high: u32) -> Result<(), No
     requires room { length rows.old < 4294967294 }
     requires low { low < length rows.old + 2 }
     requires high { high < length rows.old + 2 }
-    ensures { OnOk result (rows.new ≡ rows.old ++ record { option = option; low = low; high = high } ∷ []) }
+    ensures { OnOk result (rows.new
+        ≡ rows.old ++ record { option = option; low = low; high = high } ∷ []) }
 {
     match rows.push(option, low, high) {
         Ok(()) => Ok(()),

@@ -28,7 +28,8 @@ impl<'a> Rows<'a> {
         requires high_rises { at < first_option self.old.options high }
         requires apart { number_of low ≢ number_of high }
         requires missing { IsMissing self.old (at, number_of low, number_of high) }
-        ensures { Outcome (branch at (value low.entry) (value high.entry)) at self.old self.new result }
+        ensures { Outcome (branch at (value low.entry)
+            (value high.entry)) at self.old self.new result }
     {
         let number = self.index.len() as u32 + 2;
         let key = (at, low.number(), high.number());
@@ -48,7 +49,8 @@ impl<'a> Rows<'a> {
         requires has_high { Has self.old high }
         requires low_rises { at < first_option self.old.options low }
         requires high_rises { at < first_option self.old.options high }
-        ensures { Outcome (branch at (value low.entry) (value high.entry)) at self.old self.new result }
+        ensures { Outcome (branch at (value low.entry)
+            (value high.entry)) at self.old self.new result }
     {
         let rows = self.index.len();
         if low.number() == high.number() {

@@ -2,7 +2,8 @@ ghost use Rattle.std.specs.Prelude.{◌≡◌, ◌≢◌, ◌<◌, ◌≤◌, �
 ghost use Rattle.loom_formula.specs.Choice.{choice_at, IsLeastChoice};
 ghost use Rattle.loom_rows.specs.Condition.{value, number_of, first_option, both};
 ghost use Rattle.loom_rows.specs.Table.{Has};
-ghost use Rattle.loom_rows.specs.Search.{AreFailed, IsClear, IsNever, IsFoundFrom};
+ghost use Rattle.loom_rows.specs.Meet.{IsNever};
+ghost use Rattle.loom_rows.specs.Search.{AreFailed, IsClear, IsFoundFrom};
 
 use crate::cond::Cond;
 use crate::op::Op;
@@ -12,15 +13,17 @@ use loom_formula::Choice;
 use std::collections::HashSet;
 
 impl<'a> Rows<'a> {
-    /// The least choice on which both conditions hold, with one value for each option; None exactly where there is
-    /// none. It makes no rows.
+    /// The least choice on which both conditions hold, with one value for each option; None exactly
+    /// where there is none. It makes no rows.
     pub fn meets(&self, a: Cond<'a>, b: Cond<'a>) -> Result<Option<Choice>, NoMemory>
         requires has_a { Has self.now a }
         requires has_b { Has self.now b }
-        ensures none { IfOk result (λ met. IfNone met (IsNever (both (value a.entry) (value b.entry)))) }
+        ensures none { IfOk result (λ met.
+            IfNone met (IsNever (both (value a.entry) (value b.entry)))) }
         ensures least { IfOk result (λ met. IfSome met (λ choice.
             IsLeastChoice (both (value a.entry) (value b.entry)) (choice_at choice.values))) }
-        ensures whole { IfOk result (λ met. IfSome met (λ choice. length choice.values ≡ self.now.options)) }
+        ensures whole { IfOk result (λ met.
+            IfSome met (λ choice. length choice.values ≡ self.now.options)) }
     {
         let mut values = List::from_vec(vec![in self.alloc; false; self.options as usize]?);
         let mut failed = HashSet::new(self.alloc);
@@ -31,8 +34,8 @@ impl<'a> Rows<'a> {
         }
     }
 
-    /// Whether the two conditions hold together under some choice; then the least such choice is set in the values.
-    /// The pairs that failed and from which two ways led on are kept.
+    /// Whether the two conditions hold together under some choice; then the least such choice is
+    /// set in the values. The pairs that failed and from which two ways led on are kept.
     fn search(
         &self,
         a: Cond<'a>,
@@ -61,7 +64,7 @@ impl<'a> Rows<'a> {
         }
         let parts = self.parts(Op::And, a, b);
         let two_ways = parts.lead_two_ways();
-        let key = (a.number(), b.number());
+        let key = a.pair_with(b);
         if two_ways && failed.contains(&key) {
             return Ok(false);
         }

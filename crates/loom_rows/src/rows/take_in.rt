@@ -11,8 +11,8 @@ use loom_base::List;
 use loom_formula::RowList;
 
 impl<'a> Rows<'a> {
-    /// The condition of each row of a reduced list, in order. The rows are worked out in order, and it refuses as `is`
-    /// does.
+    /// The condition of each row of a reduced list, in order. The rows are worked out in order, and
+    /// it refuses as `is` does.
     pub fn take_in(&mut self, list: &RowList) -> Result<List<Cond<'a>>, RowsStop>
         requires reduced { IsReduced list.now }
         requires options { AreOptionsBelow self.old.options list.now }

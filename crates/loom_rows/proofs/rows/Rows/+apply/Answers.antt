@@ -17,10 +17,10 @@ Stops op t a b u r = Outcome (joined op (value a) (value b)) (min (first_option 
 
 pub returns-in-Some-get-clause-outcome : goal.returns-in-Some-get-clause-outcome
 returns-in-Some-get-clause-outcome t c =
-    let n : IsNoted c.args.op c.args.self.now (c.number.result, c.number-2.result) c.in-Some-get.cond.now = c.requires.memo (c.number.result, c.number-2.result) c.in-Some-get.cond.now (sym c.in-Some-get.ensures.value) in
+    let n : IsNoted c.args.op c.args.self.now c.pair_with-key.result c.in-Some-get.cond.now = c.requires.memo c.pair_with-key.result c.in-Some-get.cond.now (sym c.in-Some-get.ensures.value) in
     outcome-found _ _ c.args.self.now _ c.requires.sound
     (noted-answer c.args.op c.args.self.now c.args.a c.args.b c.requires.has_a c.requires.has_b c.in-Some-get.cond.now
-    (subst (λ (k : ℕ × ℕ). IsNoted c.args.op c.args.self.now k c.in-Some-get.cond.now) (λ i. (c.number.ensures i, c.number-2.ensures i)) n))
+    (subst (λ (k : ℕ × ℕ). IsNoted c.args.op c.args.self.now k c.in-Some-get.cond.now) c.pair_with-key.ensures n))
 
 pub apply-requires : goal.apply-requires
 apply-requires t c =
@@ -99,4 +99,4 @@ returns-clause-memo t c =
     let whole = finish c.args.op c.args.self.now c.args.a c.args.b r.at r.a_low r.b_low r.a_high r.b_high p c.apply.new.self c.in_ok-low.low c.in_ok-low.ensures.outcome c.apply-2.new.self c.in_ok-high.high c.in_ok-high.ensures.outcome
     c.make.new.self (Ok c.in_ok-cond.cond) c.in_ok-cond.ensures in
     memo-insert c.args.op c.apply-2.new.self c.make.new.self c.apply-2.new.memo c.insert.new.self _ c.in_ok-cond.cond c.in_ok-cond.ensures.gains c.in_ok-high.ensures.memo c.in_ok-insert.ensures.updates
-    (noted-new c.args.op c.args.self.now c.make.new.self c.args.a c.args.b c.requires.has_a c.requires.has_b _ (λ i. (c.number.ensures i, c.number-2.ensures i)) c.in_ok-cond.cond whole)
+    (noted-new c.args.op c.args.self.now c.make.new.self c.args.a c.args.b c.requires.has_a c.requires.has_b _ c.pair_with-key.ensures c.in_ok-cond.cond whole)

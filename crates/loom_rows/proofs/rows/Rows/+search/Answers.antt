@@ -14,8 +14,8 @@ returns-then-number-eq0-clause-none t c = λ e.
 
 pub returns-then-contains-clause-none : goal.returns-then-contains-clause-none
 returns-then-contains-clause-none t c = λ e.
-    never-failed c.args.self.now c.args.a c.args.b c.requires.has_a c.requires.has_b _ (λ i. (c.number-3.ensures i, c.number-4.ensures i))
-    (c.requires.failed (c.number-3.result, c.number-4.result) (sym c.if-contains.ensures))
+    never-failed c.args.self.now c.args.a c.args.b c.requires.has_a c.requires.has_b _ c.pair_with-key.ensures
+    (c.requires.failed c.pair_with-key.result (sym c.if-contains.ensures))
 
 pub search-requires : goal.search-requires
 search-requires t c =
@@ -54,8 +54,8 @@ returns-in_ok-insert-clause-failed t c =
     let r = c.parts-parts.result in
     let never = meets-never c.args.self.now c.args.a c.args.b c.requires.has_a c.requires.has_b r.at r.a_low r.b_low r.a_high r.b_high c.parts-parts.ensures
     (c.in_ok-search.ensures.none (ap Ok c.if-branch.false)) (c.in_ok-search-2.ensures.none (ap Ok c.if-branch-2.false)) in
-    failed-insert c.args.self.now c.search-2.new.failed c.insert.new.self (c.number-3.result, c.number-4.result) c.in_ok-search-2.ensures.failed c.in_ok-insert.ensures.updates
-    (record { a = c.args.a; b = c.args.b; has_a = c.requires.has_a; has_b = c.requires.has_b; numbered = λ i. (sym c.number-3.ensures i, sym c.number-4.ensures i); never = never })
+    failed-insert c.args.self.now c.search-2.new.failed c.insert.new.self c.pair_with-key.result c.in_ok-search-2.ensures.failed c.in_ok-insert.ensures.updates
+    (record { a = c.args.a; b = c.args.b; has_a = c.requires.has_a; has_b = c.requires.has_b; numbered = sym c.pair_with-key.ensures; never = never })
 
 pub returns-else-two_ways-2-clause-none : goal.returns-else-two_ways-2-clause-none
 returns-else-two_ways-2-clause-none t c = λ e.

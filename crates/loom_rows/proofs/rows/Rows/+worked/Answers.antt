@@ -14,128 +14,128 @@ use Rattle.loom_rows.proofs.Conditions.{same}
 use Rattle.loom_rows.proofs.Progress.{stop-first}
 use Rattle.loom_rows.proofs.rows.Rows.+worked.Goals as goal
 
-pub all_of-loop-member-init : goal.all_of-loop-member-init
-all_of-loop-member-init t c =
+pub all_members-loop-member-init : goal.all_members-loop-member-init
+all_members-loop-member-init t c =
     so_far-init ◌&&◌ true and_assoc and_unit all_work all_hold all_join c.args.options.now (members_of c.args.members.now) always c.args.self.now (subst IsSound c.self.view_is c.self.invariant.sound) Always tt refl
 
-pub all_of-returns-in_err-cond-clause-works : goal.all_of-returns-in_err-cond-clause-works
-all_of-returns-in_err-cond-clause-works t c =
+pub all_members-returns-in_err-cond-clause-works : goal.all_members-returns-in_err-cond-clause-works
+all_members-returns-in_err-cond-clause-works t c =
     let e = err_from_is_err_and c.from_residual.result c.from_residual.ensures.1 in
     subst (λ (r : Result Cond RowsStop). Works (all_work always (map (work_of c.args.options.now) (members_of c.args.members.now))).worked c.args.self.now c.worked.new.self r) (sym (e.1 ∙ ap Err e.2))
     (so_far-stop ◌&&◌ true and_assoc and_unit all_work all_hold all_join c.args.options.now (members_of c.args.members.now) always c.loop-member.member-index c.member-item.result (omega (arith, c.loop-member-test.true, ap length c.as_slice-member-items.ensures)) (c.member-item.is ∙ ap (λ l. get_or l c.loop-member.member-index c.member-item.result) c.as_slice-member-items.ensures) c.args.self.now c.loop-member.self c.loop-member.all c.loop-member.invariant c.worked.new.self c.in_err-cond.field-0.0 c.in_err-cond.ensures.works)
 
-pub all_of-and-requires-clause-has_a : goal.all_of-and-requires-clause-has_a
-all_of-and-requires-clause-has_a t c =
+pub all_members-and-requires-clause-has_a : goal.all_members-and-requires-clause-has_a
+all_members-and-requires-clause-has_a t c =
     so_far-has ◌&&◌ true and_assoc and_unit all_work all_hold all_join c.args.options.now (members_of c.args.members.now) always c.loop-member.member-index c.member-item.result (omega (arith, c.loop-member-test.true, ap length c.as_slice-member-items.ensures)) (c.member-item.is ∙ ap (λ l. get_or l c.loop-member.member-index c.member-item.result) c.as_slice-member-items.ensures) c.args.self.now c.loop-member.self c.loop-member.all c.loop-member.invariant c.worked.new.self c.in_ok-cond.cond c.in_ok-cond.ensures.works c.in_ok-cond.ensures.meaning
 
-pub all_of-returns-in_err-all-clause-works : goal.all_of-returns-in_err-all-clause-works
-all_of-returns-in_err-all-clause-works t c =
+pub all_members-returns-in_err-all-clause-works : goal.all_members-returns-in_err-all-clause-works
+all_members-returns-in_err-all-clause-works t c =
     let e = err_from_is_err_and c.from_residual-in_err-all.result c.from_residual-in_err-all.ensures.1 in
     subst (λ (r : Result Cond RowsStop). Works (all_work always (map (work_of c.args.options.now) (members_of c.args.members.now))).worked c.args.self.now c.and.new.self r) (sym (e.1 ∙ ap Err e.2))
     (so_far-stop_join ◌&&◌ true and_assoc and_unit all_work all_hold all_join c.args.options.now (members_of c.args.members.now) always c.loop-member.member-index c.member-item.result (omega (arith, c.loop-member-test.true, ap length c.as_slice-member-items.ensures)) (c.member-item.is ∙ ap (λ l. get_or l c.loop-member.member-index c.member-item.result) c.as_slice-member-items.ensures) c.args.self.now c.loop-member.self c.loop-member.all c.loop-member.invariant c.worked.new.self c.in_ok-cond.cond c.in_ok-cond.ensures.works c.in_ok-cond.ensures.meaning c.and.new.self c.in_err-all.field-0.0 c.in_err-all.ensures.works)
 
-pub all_of-loop-member-preserved : goal.all_of-loop-member-preserved
-all_of-loop-member-preserved t c =
+pub all_members-loop-member-preserved : goal.all_members-loop-member-preserved
+all_members-loop-member-preserved t c =
     so_far-next ◌&&◌ true and_assoc and_unit all_work all_hold all_join c.args.options.now (members_of c.args.members.now) always c.loop-member.member-index c.member-item.result (omega (arith, c.loop-member-test.true, ap length c.as_slice-member-items.ensures)) (c.member-item.is ∙ ap (λ l. get_or l c.loop-member.member-index c.member-item.result) c.as_slice-member-items.ensures) c.args.self.now c.loop-member.self c.loop-member.all c.loop-member.invariant c.worked.new.self c.in_ok-cond.cond c.in_ok-cond.ensures.works c.in_ok-cond.ensures.meaning c.in_ok-cond.ensures.value c.and.new.self c.in_ok-all.all c.in_ok-all.ensures.works c.in_ok-all.ensures.value.0 c.in_ok-all.ensures.value.1
 
-pub all_of-returns-clause-has : goal.all_of-returns-clause-has
-all_of-returns-clause-has t c =
+pub all_members-returns-clause-has : goal.all_members-returns-clause-has
+all_members-returns-clause-has t c =
     c.loop-member.invariant.has
 
-pub all_of-returns-clause-value : goal.all_of-returns-clause-value
-all_of-returns-clause-value t c =
+pub all_members-returns-clause-value : goal.all_members-returns-clause-value
+all_members-returns-clause-value t c =
     so_far-value ◌&&◌ true and_assoc and_unit all_work all_hold all_join c.args.options.now (members_of c.args.members.now) always c.loop-member.member-index (omega (arith, c.loop-member-test.false, ap length c.as_slice-member-items.ensures)) c.args.self.now c.loop-member.self c.loop-member.all c.loop-member.invariant
 
-pub all_of-returns-clause-meaning : goal.all_of-returns-clause-meaning
-all_of-returns-clause-meaning t c =
+pub all_members-returns-clause-meaning : goal.all_members-returns-clause-meaning
+all_members-returns-clause-meaning t c =
     so_far-meaning ◌&&◌ true and_assoc and_unit all_work all_hold all_join c.args.options.now (members_of c.args.members.now) always c.loop-member.member-index (omega (arith, c.loop-member-test.false, ap length c.as_slice-member-items.ensures)) c.args.self.now c.loop-member.self c.loop-member.all c.loop-member.invariant
 
-pub all_of-returns-clause-works : goal.all_of-returns-clause-works
-all_of-returns-clause-works t c =
+pub all_members-returns-clause-works : goal.all_members-returns-clause-works
+all_members-returns-clause-works t c =
     so_far-works ◌&&◌ true and_assoc and_unit all_work all_hold all_join c.args.options.now (members_of c.args.members.now) always c.loop-member.member-index (omega (arith, c.loop-member-test.false, ap length c.as_slice-member-items.ensures)) c.args.self.now c.loop-member.self c.loop-member.all c.loop-member.invariant
 
-pub any_of-loop-member-init : goal.any_of-loop-member-init
-any_of-loop-member-init t c =
+pub some_member-loop-member-init : goal.some_member-loop-member-init
+some_member-loop-member-init t c =
     so_far-init ◌||◌ false or_assoc or_unit any_work any_holds any_join c.args.options.now (members_of c.args.members.now) never c.args.self.now (subst IsSound c.self.view_is c.self.invariant.sound) Never tt refl
 
-pub any_of-returns-in_err-cond-clause-works : goal.any_of-returns-in_err-cond-clause-works
-any_of-returns-in_err-cond-clause-works t c =
+pub some_member-returns-in_err-cond-clause-works : goal.some_member-returns-in_err-cond-clause-works
+some_member-returns-in_err-cond-clause-works t c =
     let e = err_from_is_err_and c.from_residual.result c.from_residual.ensures.1 in
     subst (λ (r : Result Cond RowsStop). Works (any_work never (map (work_of c.args.options.now) (members_of c.args.members.now))).worked c.args.self.now c.worked.new.self r) (sym (e.1 ∙ ap Err e.2))
     (so_far-stop ◌||◌ false or_assoc or_unit any_work any_holds any_join c.args.options.now (members_of c.args.members.now) never c.loop-member.member-index c.member-item.result (omega (arith, c.loop-member-test.true, ap length c.as_slice-member-items.ensures)) (c.member-item.is ∙ ap (λ l. get_or l c.loop-member.member-index c.member-item.result) c.as_slice-member-items.ensures) c.args.self.now c.loop-member.self c.loop-member.any c.loop-member.invariant c.worked.new.self c.in_err-cond.field-0.0 c.in_err-cond.ensures.works)
 
-pub any_of-or-requires-clause-has_a : goal.any_of-or-requires-clause-has_a
-any_of-or-requires-clause-has_a t c =
+pub some_member-or-requires-clause-has_a : goal.some_member-or-requires-clause-has_a
+some_member-or-requires-clause-has_a t c =
     so_far-has ◌||◌ false or_assoc or_unit any_work any_holds any_join c.args.options.now (members_of c.args.members.now) never c.loop-member.member-index c.member-item.result (omega (arith, c.loop-member-test.true, ap length c.as_slice-member-items.ensures)) (c.member-item.is ∙ ap (λ l. get_or l c.loop-member.member-index c.member-item.result) c.as_slice-member-items.ensures) c.args.self.now c.loop-member.self c.loop-member.any c.loop-member.invariant c.worked.new.self c.in_ok-cond.cond c.in_ok-cond.ensures.works c.in_ok-cond.ensures.meaning
 
-pub any_of-returns-in_err-any-clause-works : goal.any_of-returns-in_err-any-clause-works
-any_of-returns-in_err-any-clause-works t c =
+pub some_member-returns-in_err-any-clause-works : goal.some_member-returns-in_err-any-clause-works
+some_member-returns-in_err-any-clause-works t c =
     let e = err_from_is_err_and c.from_residual-in_err-any.result c.from_residual-in_err-any.ensures.1 in
     subst (λ (r : Result Cond RowsStop). Works (any_work never (map (work_of c.args.options.now) (members_of c.args.members.now))).worked c.args.self.now c.or.new.self r) (sym (e.1 ∙ ap Err e.2))
     (so_far-stop_join ◌||◌ false or_assoc or_unit any_work any_holds any_join c.args.options.now (members_of c.args.members.now) never c.loop-member.member-index c.member-item.result (omega (arith, c.loop-member-test.true, ap length c.as_slice-member-items.ensures)) (c.member-item.is ∙ ap (λ l. get_or l c.loop-member.member-index c.member-item.result) c.as_slice-member-items.ensures) c.args.self.now c.loop-member.self c.loop-member.any c.loop-member.invariant c.worked.new.self c.in_ok-cond.cond c.in_ok-cond.ensures.works c.in_ok-cond.ensures.meaning c.or.new.self c.in_err-any.field-0.0 c.in_err-any.ensures.works)
 
-pub any_of-loop-member-preserved : goal.any_of-loop-member-preserved
-any_of-loop-member-preserved t c =
+pub some_member-loop-member-preserved : goal.some_member-loop-member-preserved
+some_member-loop-member-preserved t c =
     so_far-next ◌||◌ false or_assoc or_unit any_work any_holds any_join c.args.options.now (members_of c.args.members.now) never c.loop-member.member-index c.member-item.result (omega (arith, c.loop-member-test.true, ap length c.as_slice-member-items.ensures)) (c.member-item.is ∙ ap (λ l. get_or l c.loop-member.member-index c.member-item.result) c.as_slice-member-items.ensures) c.args.self.now c.loop-member.self c.loop-member.any c.loop-member.invariant c.worked.new.self c.in_ok-cond.cond c.in_ok-cond.ensures.works c.in_ok-cond.ensures.meaning c.in_ok-cond.ensures.value c.or.new.self c.in_ok-any.any c.in_ok-any.ensures.works c.in_ok-any.ensures.value.0 c.in_ok-any.ensures.value.1
 
-pub any_of-returns-clause-has : goal.any_of-returns-clause-has
-any_of-returns-clause-has t c =
+pub some_member-returns-clause-has : goal.some_member-returns-clause-has
+some_member-returns-clause-has t c =
     c.loop-member.invariant.has
 
-pub any_of-returns-clause-value : goal.any_of-returns-clause-value
-any_of-returns-clause-value t c =
+pub some_member-returns-clause-value : goal.some_member-returns-clause-value
+some_member-returns-clause-value t c =
     so_far-value ◌||◌ false or_assoc or_unit any_work any_holds any_join c.args.options.now (members_of c.args.members.now) never c.loop-member.member-index (omega (arith, c.loop-member-test.false, ap length c.as_slice-member-items.ensures)) c.args.self.now c.loop-member.self c.loop-member.any c.loop-member.invariant
 
-pub any_of-returns-clause-meaning : goal.any_of-returns-clause-meaning
-any_of-returns-clause-meaning t c =
+pub some_member-returns-clause-meaning : goal.some_member-returns-clause-meaning
+some_member-returns-clause-meaning t c =
     so_far-meaning ◌||◌ false or_assoc or_unit any_work any_holds any_join c.args.options.now (members_of c.args.members.now) never c.loop-member.member-index (omega (arith, c.loop-member-test.false, ap length c.as_slice-member-items.ensures)) c.args.self.now c.loop-member.self c.loop-member.any c.loop-member.invariant
 
-pub any_of-returns-clause-works : goal.any_of-returns-clause-works
-any_of-returns-clause-works t c =
+pub some_member-returns-clause-works : goal.some_member-returns-clause-works
+some_member-returns-clause-works t c =
     so_far-works ◌||◌ false or_assoc or_unit any_work any_holds any_join c.args.options.now (members_of c.args.members.now) never c.loop-member.member-index (omega (arith, c.loop-member-test.false, ap length c.as_slice-member-items.ensures)) c.args.self.now c.loop-member.self c.loop-member.any c.loop-member.invariant
 
-pub one_of-loop-member-init : goal.one_of-loop-member-init
-one_of-loop-member-init t c =
+pub one_member-loop-member-init : goal.one_member-loop-member-init
+one_member-loop-member-init t c =
     one_so_far-init c.args.options.now (members_of c.args.members.now) c.args.self.now (subst IsSound c.self.view_is c.self.invariant.sound)
 
-pub one_of-returns-in_err-cond-clause-works : goal.one_of-returns-in_err-cond-clause-works
-one_of-returns-in_err-cond-clause-works t c =
+pub one_member-returns-in_err-cond-clause-works : goal.one_member-returns-in_err-cond-clause-works
+one_member-returns-in_err-cond-clause-works t c =
     let e = err_from_is_err_and c.from_residual.result c.from_residual.ensures.1 in
     subst (λ (r : Result Cond RowsStop). Works (one_work never always (map (work_of c.args.options.now) (members_of c.args.members.now))).worked c.args.self.now c.worked.new.self r) (sym (e.1 ∙ ap Err e.2))
     (one_so_far-stop c.args.options.now (members_of c.args.members.now) c.loop-member.member-index c.member-item.result (omega (arith, c.loop-member-test.true, ap length c.as_slice-member-items.ensures)) (c.member-item.is ∙ ap (λ l. get_or l c.loop-member.member-index c.member-item.result) c.as_slice-member-items.ensures) c.args.self.now c.loop-member.self c.loop-member.one c.loop-member.none c.loop-member.invariant c.worked.new.self c.in_err-cond.field-0.0 c.in_err-cond.ensures.works)
 
-pub one_of-count_one-requires-clause-has_one : goal.one_of-count_one-requires-clause-has_one
-one_of-count_one-requires-clause-has_one t c =
+pub one_member-count_one-requires-clause-has_one : goal.one_member-count_one-requires-clause-has_one
+one_member-count_one-requires-clause-has_one t c =
     one_so_far-has_one c.args.options.now (members_of c.args.members.now) c.loop-member.member-index c.member-item.result (omega (arith, c.loop-member-test.true, ap length c.as_slice-member-items.ensures)) (c.member-item.is ∙ ap (λ l. get_or l c.loop-member.member-index c.member-item.result) c.as_slice-member-items.ensures) c.args.self.now c.loop-member.self c.loop-member.one c.loop-member.none c.loop-member.invariant c.worked.new.self c.in_ok-cond.cond c.in_ok-cond.ensures.works c.in_ok-cond.ensures.meaning
 
-pub one_of-count_one-requires-clause-has_none : goal.one_of-count_one-requires-clause-has_none
-one_of-count_one-requires-clause-has_none t c =
+pub one_member-count_one-requires-clause-has_none : goal.one_member-count_one-requires-clause-has_none
+one_member-count_one-requires-clause-has_none t c =
     one_so_far-has_none c.args.options.now (members_of c.args.members.now) c.loop-member.member-index c.member-item.result (omega (arith, c.loop-member-test.true, ap length c.as_slice-member-items.ensures)) (c.member-item.is ∙ ap (λ l. get_or l c.loop-member.member-index c.member-item.result) c.as_slice-member-items.ensures) c.args.self.now c.loop-member.self c.loop-member.one c.loop-member.none c.loop-member.invariant c.worked.new.self c.in_ok-cond.cond c.in_ok-cond.ensures.works c.in_ok-cond.ensures.meaning
 
-pub one_of-returns-in_err-counted-clause-works : goal.one_of-returns-in_err-counted-clause-works
-one_of-returns-in_err-counted-clause-works t c =
+pub one_member-returns-in_err-counted-clause-works : goal.one_member-returns-in_err-counted-clause-works
+one_member-returns-in_err-counted-clause-works t c =
     let e = err_from_is_err_and c.from_residual-in_err-counted.result c.from_residual-in_err-counted.ensures.1 in
     subst (λ (r : Result Cond RowsStop). Works (one_work never always (map (work_of c.args.options.now) (members_of c.args.members.now))).worked c.args.self.now c.count_one.new.self r) (sym (e.1 ∙ ap Err e.2))
     (one_so_far-stop_join c.args.options.now (members_of c.args.members.now) c.loop-member.member-index c.member-item.result (omega (arith, c.loop-member-test.true, ap length c.as_slice-member-items.ensures)) (c.member-item.is ∙ ap (λ l. get_or l c.loop-member.member-index c.member-item.result) c.as_slice-member-items.ensures) c.args.self.now c.loop-member.self c.loop-member.one c.loop-member.none c.loop-member.invariant c.worked.new.self c.in_ok-cond.cond c.in_ok-cond.ensures.works c.in_ok-cond.ensures.meaning c.count_one.new.self c.in_err-counted.field-0.0 c.in_err-counted.ensures.works)
 
-pub one_of-loop-member-preserved : goal.one_of-loop-member-preserved
-one_of-loop-member-preserved t c =
+pub one_member-loop-member-preserved : goal.one_member-loop-member-preserved
+one_member-loop-member-preserved t c =
     one_so_far-next c.args.options.now (members_of c.args.members.now) c.loop-member.member-index c.member-item.result (omega (arith, c.loop-member-test.true, ap length c.as_slice-member-items.ensures)) (c.member-item.is ∙ ap (λ l. get_or l c.loop-member.member-index c.member-item.result) c.as_slice-member-items.ensures) c.args.self.now c.loop-member.self c.loop-member.one c.loop-member.none c.loop-member.invariant c.worked.new.self c.in_ok-cond.cond c.in_ok-cond.ensures.works c.in_ok-cond.ensures.meaning c.in_ok-cond.ensures.value c.count_one.new.self c.in_ok-counted.counted c.in_ok-counted.counted.one c.in_ok-counted.counted.none c.in_ok-counted.ensures.works c.in_ok-counted.ensures.has.0 c.in_ok-counted.ensures.has.1 c.in_ok-counted.ensures.one c.in_ok-counted.ensures.none
 
-pub one_of-returns-clause-has : goal.one_of-returns-clause-has
-one_of-returns-clause-has t c =
+pub one_member-returns-clause-has : goal.one_member-returns-clause-has
+one_member-returns-clause-has t c =
     c.loop-member.invariant.has_one
 
-pub one_of-returns-clause-value : goal.one_of-returns-clause-value
-one_of-returns-clause-value t c =
+pub one_member-returns-clause-value : goal.one_member-returns-clause-value
+one_member-returns-clause-value t c =
     one_so_far-value c.args.options.now (members_of c.args.members.now) c.loop-member.member-index (omega (arith, c.loop-member-test.false, ap length c.as_slice-member-items.ensures)) c.args.self.now c.loop-member.self c.loop-member.one c.loop-member.none c.loop-member.invariant
 
-pub one_of-returns-clause-meaning : goal.one_of-returns-clause-meaning
-one_of-returns-clause-meaning t c =
+pub one_member-returns-clause-meaning : goal.one_member-returns-clause-meaning
+one_member-returns-clause-meaning t c =
     one_so_far-meaning c.args.options.now (members_of c.args.members.now) c.loop-member.member-index (omega (arith, c.loop-member-test.false, ap length c.as_slice-member-items.ensures)) c.args.self.now c.loop-member.self c.loop-member.one c.loop-member.none c.loop-member.invariant
 
-pub one_of-returns-clause-works : goal.one_of-returns-clause-works
-one_of-returns-clause-works t c =
+pub one_member-returns-clause-works : goal.one_member-returns-clause-works
+one_member-returns-clause-works t c =
     one_so_far-works c.args.options.now (members_of c.args.members.now) c.loop-member.member-index (omega (arith, c.loop-member-test.false, ap length c.as_slice-member-items.ensures)) c.args.self.now c.loop-member.self c.loop-member.one c.loop-member.none c.loop-member.invariant
 
 pub worked-returns-in-Always-clause-works : goal.worked-returns-in-Always-clause-works
@@ -165,12 +165,12 @@ worked-returns-in_ok-inner-in-Not-clause-works t c =
 
 pub worked-returns-in-And-clause-value : goal.worked-returns-in-And-clause-value
 worked-returns-in-And-clause-value t c =
-    IfOk-weaker c.all_of.result (λ x. AreSame (value x) (all_hold c.args.options.now (members_of c.in-And.members))) _ (λ x p d. p d ∙ meaning_of-And c.args.options.now c.args.formula.now c.in-And.members c.in-And.is d) c.all_of.ensures.value
+    IfOk-weaker c.all_members.result (λ x. AreSame (value x) (all_hold c.args.options.now (members_of c.in-And.members))) _ (λ x p d. p d ∙ meaning_of-And c.args.options.now c.args.formula.now c.in-And.members c.in-And.is d) c.all_members.ensures.value
 
 pub worked-returns-in-Or-clause-value : goal.worked-returns-in-Or-clause-value
 worked-returns-in-Or-clause-value t c =
-    IfOk-weaker c.any_of.result (λ x. AreSame (value x) (any_holds c.args.options.now (members_of c.in-Or.members))) _ (λ x p d. p d ∙ meaning_of-Or c.args.options.now c.args.formula.now c.in-Or.members c.in-Or.is d) c.any_of.ensures.value
+    IfOk-weaker c.some_member.result (λ x. AreSame (value x) (any_holds c.args.options.now (members_of c.in-Or.members))) _ (λ x p d. p d ∙ meaning_of-Or c.args.options.now c.args.formula.now c.in-Or.members c.in-Or.is d) c.some_member.ensures.value
 
 pub worked-returns-in-One-clause-value : goal.worked-returns-in-One-clause-value
 worked-returns-in-One-clause-value t c =
-    IfOk-weaker c.one_of.result (λ x. AreSame (value x) (one_holds c.args.options.now (members_of c.in-One.members))) _ (λ x p d. p d ∙ meaning_of-One c.args.options.now c.args.formula.now c.in-One.members c.in-One.is d) c.one_of.ensures.value
+    IfOk-weaker c.one_member.result (λ x. AreSame (value x) (one_holds c.args.options.now (members_of c.in-One.members))) _ (λ x p d. p d ∙ meaning_of-One c.args.options.now c.args.formula.now c.in-One.members c.in-One.is d) c.one_member.ensures.value
