@@ -5,7 +5,7 @@ use Rattle.std.proofs.lemmas.List.{get_or-set_same, get_or-set_other, get_or-map
 use Rattle.std.proofs.lemmas.Bool.{cases_lt, cases_eq}
 use Rattle.std.specs.Option.{IfSome}
 use Rattle.std.specs.Bool.{then_some}
-use Rattle.loom_topology.specs.Table.{TableView, cell_at, place_of_cell, with_cell, IsWhole}
+use Rattle.loom_topology.specs.Table.{TableView, cell_at, cell_index, with_cell, IsWhole}
 use Rattle.loom_steiner.specs.Scratch.{CopiesRow, scratch_view}
 use Rattle.loom_steiner.specs.Row.{cost_from}
 use Rattle.loom_steiner.proofs.Growing.{place_within}
@@ -47,7 +47,7 @@ pub copies_row_more : (source initial table : TableView) (mask done : ℕ) → 1
 copies_row_more source initial table mask done from to range nodes len c =
     let n = source.nodes in
     let value = cell_at source mask done in
-    let place = place_of_cell table mask done in
+    let place = cell_index table mask done in
     let same_nodes : table.nodes ≡ n = c.nodes ∙ nodes in
     let start : (mask - 1) * table.nodes ≡ (mask - 1) * n = ap (λ (m : ℕ). (mask - 1) * m) same_nodes in
     let inside : place < length table.cells =

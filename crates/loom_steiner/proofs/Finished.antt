@@ -8,13 +8,13 @@ use Rattle.std.proofs.lemmas.Bool.Decides.{nat_tests}
 use Rattle.loom_topology.specs.Topology.{TopologyView, branch_at, price_at, IsSound}
 use Rattle.loom_topology.specs.TreeCost.{HasTree}
 use Rattle.loom_topology.specs.Least.{IsLeast}
-use Rattle.loom_topology.specs.Legal.{IsMask, IsLegal, IsAtMost, plus, cavities_of}
+use Rattle.loom_topology.specs.Legal.{IsMask, IsLegal, IsAtMost, plus, cavities_of_mask}
 use Rattle.loom_topology.specs.Table.{cell_at, IsWhole}
 use Rattle.loom_topology.proofs.LeastCost.{attained_legal_is_least}
 use Rattle.loom_steiner.specs.declared.ways.TheConstants.{NO_TREE}
 use Rattle.loom_steiner.specs.Row.{cost_from}
 use Rattle.loom_steiner.specs.Split.{cell_in}
-use Rattle.loom_steiner.specs.Filled.{IsFilled, reach_cost}
+use Rattle.loom_steiner.specs.Filled.{IsFilled}
 use Rattle.loom_steiner.specs.LeastTable.{IsLeastTable}
 use Rattle.loom_steiner.specs.Scratch.{scratch_view}
 use Rattle.loom_steiner.proofs.Growing.{place_below}
@@ -70,8 +70,8 @@ module _ (topology : TopologyView) (terminals cells : List ℕ) (sound : IsSound
   pub cell_small : (mask v : ℕ) → IsMask terminals mask → v < length topology.nodes → cell_in cells (length topology.nodes) mask v < NO_TREE
       → cell_in cells (length topology.nodes) mask v ≤ 24600000000
   cell_small mask v range node number =
-      let few : length (cavities_of terminals mask) ≤ 12 = omega (arith, cavities-bound terminals mask) in
-      small_number (cell_in cells (length topology.nodes) mask v) (length (cavities_of terminals mask)) (length topology.nodes) few few_nodes
+      let few : length (cavities_of_mask terminals mask) ≤ 12 = omega (arith, cavities-bound terminals mask) in
+      small_number (cell_in cells (length topology.nodes) mask v) (length (cavities_of_mask terminals mask)) (length topology.nodes) few few_nodes
       (filled.bounded mask v range.0 range.1 node number)
 
   filled_is_legal : IsLegal topology terminals (λ mask v. cost_from (cell_in cells (length topology.nodes) mask v))
@@ -94,12 +94,12 @@ module _ (topology : TopologyView) (terminals cells : List ℕ) (sound : IsSound
       }
 
   pub filled_is_least : (mask v : ℕ) → IsMask terminals mask → v < length topology.nodes
-      → IsLeast topology (cavities_of terminals mask) v (cost_from (cell_in cells (length topology.nodes) mask v))
+      → IsLeast topology (cavities_of_mask terminals mask) v (cost_from (cell_in cells (length topology.nodes) mask v))
   filled_is_least mask v range node =
       let n = length topology.nodes in
       attained_legal_is_least topology terminals (λ m u. cost_from (cell_in cells n m u)) sound filled_is_legal
       (λ m u x m_range u_node e. (let p = cost-some (cell_in cells n m u) x e in
-      subst (λ (y : ℕ). HasTree topology (cavities_of terminals m) u y) p.1 (filled.attained m u m_range.0 m_range.1 u_node p.0)))
+      subst (λ (y : ℕ). HasTree topology (cavities_of_mask terminals m) u y) p.1 (filled.attained m u m_range.0 m_range.1 u_node p.0)))
       mask v range node
 
   cell_known : (k : ℕ) → k < length cells → slice_index cells k < NO_TREE → slice_index cells k ≤ 24600000000
@@ -142,10 +142,5 @@ module _ (topology : TopologyView) (terminals cells : List ℕ) (sound : IsSound
     masks = refl;
     nodes = refl;
     least = λ mask v range node.
-        subst (λ (c : Option ℕ). IsLeast topology (cavities_of terminals mask) v c) (sym (cell_read mask v range node)) (filled_is_least mask v range node);
-    small = λ mask v m range node cell.
-        (let n = length topology.nodes in
-        let p = cost-some (cell_in cells n mask v) m (sym (cell_read mask v range node) ∙ cell) in
-        subst (λ (y : ℕ). y + reach_cost n ≤ 2 * length (cavities_of terminals mask) * reach_cost n) p.1
-        (filled.bounded mask v range.0 range.1 node p.0));
+        subst (λ (c : Option ℕ). IsLeast topology (cavities_of_mask terminals mask) v c) (sym (cell_read mask v range node)) (filled_is_least mask v range node);
   }

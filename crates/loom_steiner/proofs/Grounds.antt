@@ -8,8 +8,9 @@ use Rattle.std.proofs.lemmas.Bool.{cases_lt, cases_eq}
 use Rattle.std.proofs.lemmas.List.{length-append, get_or_past}
 use Rattle.std.proofs.lemmas.List.Elements.{All-push}
 use Rattle.loom_topology.specs.Topology.{TopologyView, branch_at}
-use Rattle.loom_steiner.specs.declared.ways.Way.{Way}
-use Rattle.loom_steiner.specs.Ways.{AreWays, AreWaysFrom, AreInRange}
+use Rattle.loom_topology.specs.declared.ways.Way.{Way}
+use Rattle.loom_topology.specs.Ways.{AreInRange}
+use Rattle.loom_steiner.specs.Ways.{AreWays, AreWaysFrom}
 
 -- the ways from the first nodes
 pub record ListsAll (topology : TopologyView) (done : ℕ) (ways : List (Bor (List Way))) : Type 0 where

@@ -1,15 +1,15 @@
-use Rattle.std.proofs.Common.{List, ◌++◌, ℕ, ◌+◌, ◌-◌, ◌*◌, ◌^◌, ◌<◌, ◌≤◌, ◌≡◌, length, slice_index, ◌==◌, inl, inr, sym, ap, subst, arith, ◌∙◌, length-append}
+use Rattle.std.proofs.Common.{List, ◌++◌, ℕ, ◌+◌, ◌-◌, ◌*◌, ◌^◌, ◌<◌, ◌≤◌, ◌≡◌, length, slice_index, inl, inr, sym, ap, subst, arith, ◌∙◌, length-append}
 use Rattle.std.proofs.Math.ListN.{get_or-append}
 use Rattle.std.proofs.Math.Nat.{mul-le-mul_right, one-le-pow}
 use Rattle.std.proofs.lemmas.List.{get_or-append-add}
-use Rattle.loom_topology.specs.Topology.{TopologyView, Leads, node_of, segment_at, IsSound}
+use Rattle.loom_topology.specs.Topology.{TopologyView, node_of, IsSound}
 use Rattle.loom_topology.specs.TreeCost.{HasTree}
-use Rattle.loom_topology.specs.Legal.{cavities_of}
+use Rattle.loom_topology.specs.Legal.{cavities_of_mask}
 use Rattle.loom_steiner.specs.Row.{IsCapped}
 use Rattle.loom_steiner.specs.Split.{cell_in}
 use Rattle.loom_steiner.specs.Filled.{IsFilled, IsRowOf, IsBoundedAt}
-use Rattle.std.proofs.lemmas.Bool.{cases_lt, cases_eq, cond-true, cond-false, eq-eqb, ne_eqb}
-use Rattle.loom_topology.proofs.Places.{end_below}
+use Rattle.std.proofs.lemmas.Bool.{cases_lt}
+use Rattle.loom_topology.proofs.LeastLegal.{leads_below}
 
 pub place_below : (m mask n v : ℕ) → 0 < m → m < mask → v < n → (m - 1) * n + v < (mask - 1) * n
 place_below m mask n v some less range =
@@ -45,19 +45,6 @@ capped_append cells row capped_cells capped_row v = elim (cases_lt v (length cel
       omega (arith, e, capped_row (v - length cells)))
 ]
 
--- the ends of an open segment are nodes
-pub end_in_range : (topology : TopologyView) (s v u : ℕ) → IsSound topology → Leads topology s v u → u < length topology.nodes
-end_in_range topology s v u sound leads =
-    let g = segment_at topology s in
-    let b = end_below topology sound s v leads.0 in
-    elim leads.1 [
-      | inl p ↦ subst (λ (w : ℕ). w < length topology.nodes) (cond-true (g.from == v) g.to g.from (eq-eqb g.from v p.0) ∙ p.1) b
-      | inr p ↦ elim (cases_eq g.from v) [
-        | inl e ↦ subst (λ (w : ℕ). w < length topology.nodes) (cond-true (g.from == v) g.to g.from (eq-eqb g.from v e) ∙ (p.1 ∙ (sym e ∙ p.0))) b
-        | inr n ↦ subst (λ (w : ℕ). w < length topology.nodes) (cond-false (g.from == v) g.to g.from (ne_eqb g.from v n) ∙ p.0) b
-      ]
-    ]
-
 -- the rows below a mask and the row of the mask
 pub IsFilled-more : (topology : TopologyView) (terminals cells row : List ℕ) (mask : ℕ) → 0 < mask → IsSound topology
     → ((i : ℕ) → i + 1 < length terminals → node_of topology (slice_index terminals (i + 1)) < length topology.nodes)
@@ -82,13 +69,13 @@ IsFilled-more topology terminals cells row mask some sound homes f r =
             at_mask (2 ^ i) e (node_of topology (slice_index terminals (i + 1))) ∙ r.leaf i range e)
       ];
       over = λ m v s u positive below range leads.
-          (let u_range = end_in_range topology s v u sound leads in
+          (let u_range = leads_below topology s v u sound leads in
           elim (cases_lt m mask) [
             | inl lt ↦ omega (arith, before m v positive lt range, before m u positive lt u_range, f.over m v s u positive lt range leads)
             | inr ge ↦ (let e : m ≡ mask = omega arith in omega (arith, at_mask m e v, at_mask m e u, r.over v s u range leads))
           ]);
       reach = λ m v s u positive below range leads number.
-          (let u_range = end_in_range topology s v u sound leads in
+          (let u_range = leads_below topology s v u sound leads in
           elim (cases_lt m mask) [
             | inl lt ↦
                 (let h = f.reach m v s u positive lt range leads (omega (arith, before m u positive lt u_range)) in
@@ -108,13 +95,13 @@ IsFilled-more topology terminals cells row mask some sound homes f r =
         | inl lt ↦
             (let e = before m v positive lt range in
             let h = f.attained m v positive lt range (omega (arith, e)) in
-            subst (λ (x : ℕ). HasTree topology (cavities_of terminals m) v x) (sym e) h)
+            subst (λ (x : ℕ). HasTree topology (cavities_of_mask terminals m) v x) (sym e) h)
         | inr ge ↦
             (let e : m ≡ mask = omega arith in
             let p = at_mask m e v in
             let h = r.attained v range (omega (arith, p)) in
-            subst (λ (x : ℕ). HasTree topology (cavities_of terminals m) v x) (sym p)
-            (subst (λ (w : ℕ). HasTree topology (cavities_of terminals w) v (slice_index row v)) (sym e) h))
+            subst (λ (x : ℕ). HasTree topology (cavities_of_mask terminals m) v x) (sym p)
+            (subst (λ (w : ℕ). HasTree topology (cavities_of_mask terminals w) v (slice_index row v)) (sym e) h))
       ];
       bounded = λ m v positive below range. elim (cases_lt m mask) [
         | inl lt ↦ subst (λ (x : ℕ). IsBoundedAt topology terminals m x) (sym (before m v positive lt range)) (f.bounded m v positive lt range)

@@ -12,4 +12,3 @@ pub mod Grounds
 pub mod Copying
 pub mod Steps
 pub mod Ends
-pub mod CheapestWays

@@ -8,12 +8,12 @@ use Rattle.std.proofs.lemmas.Nat.{and_comm}
 use Rattle.std.proofs.lemmas.List.Sums.{sum_by-le}
 use Rattle.loom_topology.specs.Topology.{TopologyView, Leads, branch_at, price_at, node_of, IsSound}
 use Rattle.loom_topology.specs.TreeCost.{HasTree}
-use Rattle.loom_topology.specs.Legal.{IsMask, cavities_of}
+use Rattle.loom_topology.specs.Legal.{IsMask, cavities_of_mask}
 use Rattle.loom_topology.proofs.Composition.{one_cavity_is_free, trees_join}
 use Rattle.loom_topology.proofs.Masks.{chosen-some}
 use Rattle.loom_steiner.specs.declared.ways.TheConstants.{NO_TREE}
-use Rattle.loom_steiner.specs.declared.ways.Way.{Way}
-use Rattle.loom_steiner.specs.Ways.{way_at, no_way}
+use Rattle.loom_topology.specs.declared.ways.Way.{Way}
+use Rattle.loom_topology.specs.Ways.{way_at, no_way}
 use Rattle.loom_steiner.specs.Row.{IsAttained, IsBoundedFrom, Improves, reached}
 use Rattle.loom_steiner.specs.Worklist.{IsSettled}
 use Rattle.loom_steiner.specs.Split.{IsPart, cell_in}
@@ -21,7 +21,7 @@ use Rattle.loom_steiner.specs.Begin.{Begins, IsRow}
 use Rattle.loom_steiner.specs.Ground.{IsGround}
 use Rattle.loom_steiner.specs.Filled.{IsFilled, IsRowOf, IsBoundedAt, reach_cost}
 use Rattle.loom_steiner.proofs.Parts.{part_apart, part_of_sum, and_above, one_above}
-use Rattle.loom_steiner.proofs.Growing.{end_in_range}
+use Rattle.loom_topology.proofs.LeastLegal.{leads_below}
 use Rattle.loom_steiner.proofs.Sizes.{cavities-sum, cavities-bound}
 
 counts_most : (x : ℕ) → cond (ltb x NO_TREE) 1 0 ≤ 1
@@ -74,7 +74,7 @@ record SplitParts (terminals : List ℕ) (i rest mask part : ℕ) : Type 0 where
   low_b : rest - part < mask
   apart : bit_and (2 ^ i + part) (rest - part) ≡ 0
   joined : 2 ^ i + part + (rest - part) ≡ mask
-  sizes : length (cavities_of terminals (2 ^ i + part)) + length (cavities_of terminals (rest - part)) ≡ length (cavities_of terminals mask)
+  sizes : length (cavities_of_mask terminals (2 ^ i + part)) + length (cavities_of_mask terminals (rest - part)) ≡ length (cavities_of_mask terminals mask)
 
 split_parts : (terminals : List ℕ) (i rest mask part : ℕ) → rest < 2 ^ i → mask ≡ 2 ^ i + rest → IsPart rest part → SplitParts terminals i rest mask part
 split_parts terminals i rest mask part low is is_part =
@@ -91,7 +91,7 @@ split_parts terminals i rest mask part low is is_part =
       low_b = omega arith;
       apart = apart;
       joined = joined;
-      sizes = sym (cavities-sum terminals a b apart) ∙ ap (λ (m : ℕ). length (cavities_of terminals m)) joined;
+      sizes = sym (cavities-sum terminals a b apart) ∙ ap (λ (m : ℕ). length (cavities_of_mask terminals m)) joined;
     }
 
 -- what is known where the row of the mask 2 ^ i + rest is worked out
@@ -110,7 +110,7 @@ pub record Works (topology : TopologyView) (ways : List (Bor (List Way))) (branc
 module _ (topology : TopologyView) (ways : List (Bor (List Way))) (branches terminals cells : List ℕ) (i rest mask home : ℕ)
     (w : Works topology ways branches terminals cells i rest mask home) where
   start_attained : (start : List ℕ) → Begins cells branches (length topology.nodes) (2 ^ i) rest home start
-      → IsAttained topology (cavities_of terminals mask) start
+      → IsAttained topology (cavities_of_mask terminals mask) start
   start_attained start begins v within number =
       let n = length topology.nodes in
       let range : v < n = omega (arith, begins.len) in
@@ -119,9 +119,9 @@ module _ (topology : TopologyView) (ways : List (Bor (List Way))) (branches term
             (let e : 2 ^ i ≡ mask = omega (arith, leaf.0, w.is) in
             let at : node_of topology (slice_index terminals (i + 1)) ≡ v = sym (leaf.1 ∙ w.home_is) in
             let t = one_cavity_is_free topology terminals i w.bit in
-            subst (λ (x : ℕ). HasTree topology (cavities_of terminals mask) v x) (sym leaf.2)
-            (subst (λ (u : ℕ). HasTree topology (cavities_of terminals mask) u 0) at
-            (subst (λ (m : ℕ). HasTree topology (cavities_of terminals m) (node_of topology (slice_index terminals (i + 1))) 0) e t)))
+            subst (λ (x : ℕ). HasTree topology (cavities_of_mask terminals mask) v x) (sym leaf.2)
+            (subst (λ (u : ℕ). HasTree topology (cavities_of_mask terminals mask) u 0) at
+            (subst (λ (m : ℕ). HasTree topology (cavities_of_mask terminals m) (node_of topology (slice_index terminals (i + 1))) 0) e t)))
         | inr p ↦
             (let part = p.0 in
             let q = split_parts terminals i rest mask part w.low w.is p.1 in
@@ -133,16 +133,16 @@ module _ (topology : TopologyView) (ways : List (Bor (List Way))) (branches term
             let is_mask : IsMask terminals (a + b) = subst (λ (m : ℕ). IsMask terminals m) (sym q.joined) (mask_in_range terminals i rest mask w.bit w.low w.is) in
             let t = trees_join topology terminals a b v (cell_in cells n a v) (cell_in cells n b v) q.some_a q.some_b q.apart is_mask has_a has_b in
             let cost : cell_in cells n a v + cell_in cells n b v + branch_at topology v ≡ slice_index start v = omega (arith, p.2, branch) in
-            subst (λ (x : ℕ). HasTree topology (cavities_of terminals mask) v x) cost
-            (subst (λ (m : ℕ). HasTree topology (cavities_of terminals m) v (cell_in cells n a v + cell_in cells n b v + branch_at topology v)) q.joined t))
+            subst (λ (x : ℕ). HasTree topology (cavities_of_mask terminals mask) v x) cost
+            (subst (λ (m : ℕ). HasTree topology (cavities_of_mask terminals m) v (cell_in cells n a v + cell_in cells n b v + branch_at topology v)) q.joined t))
       ]
 
   start_bounded : (start : List ℕ) → Begins cells branches (length topology.nodes) (2 ^ i) rest home start
-      → IsBoundedFrom (2 * length (cavities_of terminals mask) * reach_cost (length topology.nodes) + 1000000 - 2 * reach_cost (length topology.nodes)) start
+      → IsBoundedFrom (2 * length (cavities_of_mask terminals mask) * reach_cost (length topology.nodes) + 1000000 - 2 * reach_cost (length topology.nodes)) start
   start_bounded start begins v within number =
       let n = length topology.nodes in
       let k = reach_cost n in
-      let s = length (cavities_of terminals mask) in
+      let s = length (cavities_of_mask terminals mask) in
       let range : v < n = omega (arith, begins.len) in
       elim (begins.from v range number) [
         | inl leaf ↦ omega (arith, leaf.2)
@@ -153,9 +153,9 @@ module _ (topology : TopologyView) (ways : List (Bor (List Way))) (branches term
             let b = rest - part in
             let bound_a = w.filled.bounded a v q.some_a q.low_a range (omega (arith, p.2)) in
             let bound_b = w.filled.bounded b v q.some_b q.low_b range (omega (arith, p.2)) in
-            let sum = bound_sum (cell_in cells n a v) (cell_in cells n b v) (length (cavities_of terminals a)) (length (cavities_of terminals b))
+            let sum = bound_sum (cell_in cells n a v) (cell_in cells n b v) (length (cavities_of_mask terminals a)) (length (cavities_of_mask terminals b))
             (slice_index branches v) k bound_a bound_b (w.ground.cheap v) in
-            let sizes : 2 * (length (cavities_of terminals a) + length (cavities_of terminals b)) * k ≡ 2 * s * k = ap (λ (m : ℕ). 2 * m * k) q.sizes in
+            let sizes : 2 * (length (cavities_of_mask terminals a) + length (cavities_of_mask terminals b)) * k ≡ 2 * s * k = ap (λ (m : ℕ). 2 * m * k) q.sizes in
             omega (arith, p.2, sum, sizes))
       ]
 
@@ -201,12 +201,12 @@ module _ (topology : TopologyView) (ways : List (Bor (List Way))) (branches term
       let from = (slice_index_or ways u d).now in
       let back : Leads topology s u v = (leads.0, elim leads.1 [ inl p ↦ inr p | inr p ↦ inl p ]) in
       let c = (w.ground.are_ways.from u d within).covers s v back in
-      let ends : (way_at from c.0).to ≡ v = c.2 in
+      let ends : (way_at from c.0).to.0 ≡ v = c.2 in
       let h = settled u within d c.0 c.1 in
-      let moved : slice_index row (way_at from c.0).to ≡ slice_index row v = ap (slice_index row) ends in
-      ((way_at from c.0).price, (w.ground.range u d within c.0 no_way c.1).1, omega (arith, h, moved), c.3)
+      let moved : slice_index row (way_at from c.0).to.0 ≡ slice_index row v = ap (slice_index row) ends in
+      ((way_at from c.0).price, (w.ground.range u d within c.0 no_way c.1).2, omega (arith, h, moved), c.3)
 
-  some_cavity : 0 < length (cavities_of terminals mask)
+  some_cavity : 0 < length (cavities_of_mask terminals mask)
   some_cavity =
       let range = mask_in_range terminals i rest mask w.bit w.low w.is in
       chosen-some (drop 1 terminals) mask range.0 (omega (arith, range.1, ap (λ (l : ℕ). 2 ^ l) (length-drop 1 terminals)))
@@ -215,15 +215,15 @@ module _ (topology : TopologyView) (ways : List (Bor (List Way))) (branches term
       → (v : ℕ) → v < length topology.nodes → IsBoundedAt topology terminals mask (slice_index row v)
   row_bounded row start begins improves v range number =
       let n = length topology.nodes in
-      let s = length (cavities_of terminals mask) in
+      let s = length (cavities_of_mask terminals mask) in
       let len : length row ≡ n = improves.len ∙ begins.len in
       let h = improves.bounded (2 * s * reach_cost n + 1000000 - 2 * reach_cost n) (start_bounded start begins) v (omega arith) number in
       bound_row (slice_index row v) s n (reached row) some_cavity (omega (arith, reached-le row)) h
 
   row_small : (x : ℕ) → IsBoundedAt topology terminals mask x → x < NO_TREE → x ≤ 24600000000
   row_small x bounded number =
-      let few : length (cavities_of terminals mask) ≤ 12 = omega (arith, cavities-bound terminals mask, w.few_terminals) in
-      small_number x (length (cavities_of terminals mask)) (length topology.nodes) few w.few_nodes (bounded number)
+      let few : length (cavities_of_mask terminals mask) ≤ 12 = omega (arith, cavities-bound terminals mask, w.few_terminals) in
+      small_number x (length (cavities_of_mask terminals mask)) (length topology.nodes) few w.few_nodes (bounded number)
 
   pub row_of_mask : (row : List ℕ) → IsRow ways cells branches (length topology.nodes) (2 ^ i) rest home row
       → IsRowOf topology terminals cells mask row
@@ -242,15 +242,15 @@ module _ (topology : TopologyView) (ways : List (Bor (List Way))) (branches term
             ap (λ (m : ℕ). node_of topology (slice_index terminals (m + 1))) same ∙ sym w.home_is in
             subst (λ (h : ℕ). slice_index row h ≡ 0) (sym at) (omega (arith, lower home, r.begins.leaf none)));
         over = λ v s u range leads.
-            (let h = over_way row v s u r.settled (end_in_range topology s v u w.sound leads) leads in omega (arith, h.2, h.3));
+            (let h = over_way row v s u r.settled (leads_below topology s v u w.sound leads) leads in omega (arith, h.2, h.3));
         reach = λ v s u range leads number.
-            (let u_range = end_in_range topology s v u w.sound leads in
+            (let u_range = leads_below topology s v u w.sound leads in
             let h = over_way row v s u r.settled u_range leads in
             let small = row_small (slice_index row u) (row_bounded row start r.begins r.improves u u_range) number in
             omega (arith, h.1, h.2, small));
         split = λ a b v some_a some_b apart joined range. omega (arith, lower v, start_split start r.begins a b v some_a some_b apart joined range);
         attained = λ v range number.
-            r.improves.attained topology (cavities_of terminals mask) w.ground.are_ways (start_attained start r.begins) v
+            r.improves.attained topology (cavities_of_mask terminals mask) w.ground.are_ways (start_attained start r.begins) v
             (omega (arith, r.improves.len, r.begins.len)) number;
         bounded = row_bounded row start r.begins r.improves;
       }

@@ -1,79 +1,82 @@
--- The ways that stand for the open segments at a node.
-use Rattle.std.proofs.Common.{List, [], ◌∷◌, ◌++◌, ℕ, true, ◌<◌, ◌≤◌, ◌≡◌, ◌⊎◌, ◌==◌, map, length, slice_index, get_or, inl, inr, sym, ap, arith, ◌∙◌}
-use Rattle.std.proofs.lemmas.Bool.{cases_eq, cond-true, cond-false, eq-eqb, ne_eqb}
-use Rattle.std.proofs.lemmas.Bool.Decides.{nat_tests}
-use Rattle.std.proofs.lemmas.List.{get_or-map, length-map}
+-- The ways over the marked segments at a node.
+use Rattle.std.proofs.Common.{List, [], ◌∷◌, ◌++◌, ℕ, Bool, false, IsTrue, ◌+◌, ◌<◌, ◌≤◌, ◌≡◌, length, slice_index, get_or, inl, inr, refl, sym, ap, subst, arith, ◌∙◌}
+use Rattle.std.proofs.lemmas.Bool.{cases_eq, both_ways}
+use Rattle.std.proofs.lemmas.List.{length-append, get_or_append_left, get_or_push}
 use Rattle.std.proofs.lemmas.List.Elements.{All-push}
-use Rattle.loom_topology.specs.Topology.{TopologyView, Segment, Leads, segment_at, price_at, is_open_to, open_at}
+use Rattle.loom_topology.specs.declared.ways.Way.{Way}
+use Rattle.loom_topology.specs.Topology.{TopologyView, Leads, segment_at, open_at}
 use Rattle.loom_topology.specs.WiringTree.{other_end}
-use Rattle.loom_topology.proofs.Leads.{open_among-below, open_among-passes}
-use Rattle.loom_topology.proofs.Places.{leads_on}
-use Rattle.loom_steiner.specs.declared.ways.Way.{Way}
-use Rattle.loom_steiner.specs.Ways.{AreInRange, way_to, way_price}
-use Rattle.loom_base.specs.declared.positions.SegmentNo.{SegmentNo}
+use Rattle.loom_topology.specs.Ways.{AreInRange, MarksCheapest, way_at, way_from, no_way}
+use Rattle.loom_topology.proofs.Leads.{below-from_Leads}
+use Rattle.loom_topology.proofs.CheapestSegments.{nth-leads, nth-from_leads, some_cheapest}
+use Rattle.loom_steiner.specs.Ways.{AreWaysFrom}
 
--- each segment of the list at a node is open to it
-pub open_at-in : (topology : TopologyView) (v k : ℕ) → k < length (open_at topology v)
-    → (slice_index (open_at topology v) k < length topology.segments) × (is_open_to (segment_at topology (slice_index (open_at topology v) k)) v ≡ true)
-open_at-in topology v k within = (open_among-below topology.segments v k 0 within, open_among-passes topology.segments v k 0 within)
+-- the k-th open segment at a node
+abbrev pub nth : TopologyView → ℕ → ℕ → ℕ
+nth topology v k = slice_index (open_at topology v) k
 
-either_end : (g : Segment) (v : ℕ) → is_open_to g v ≡ true → (g.is_open ≡ true) × ((g.from ≡ v) ⊎ (g.to ≡ v))
-either_end g v e = elim (cases_eq g.from v) [
-  | inl same ↦ (grind (arith, nat_tests), inl same)
-  | inr other ↦ elim (cases_eq g.to v) [
-    | inl same ↦ (grind (arith, nat_tests), inr same)
-    | inr none ↦ absurd (grind (arith, nat_tests))
-  ]
-]
+-- the ways over those of the first open segments at a node that are marked
+pub record Takes (topology : TopologyView) (v done : ℕ) (marks : List Bool) (ways : List Way) : Type 0 where
+  pub from : (j : ℕ) → j < length ways → (s : ℕ) × Leads topology s v (other_end (segment_at topology s) v) × (way_at ways j ≡ way_from topology v s)
+  pub taken : (k : ℕ) → k < done → IsTrue (get_or marks (nth topology v k) false)
+      → (j : ℕ) × (j < length ways) × (way_at ways j ≡ way_from topology v (nth topology v k))
+  pub range : AreInRange (length topology.nodes) ways
 
-pub open_leads : (topology : TopologyView) (s v : ℕ) → is_open_to (segment_at topology s) v ≡ true
-    → Leads topology s v (other_end (segment_at topology s) v)
-open_leads topology s v e =
-    let g = segment_at topology s in
-    let p = either_end g v e in
-    (p.0, leads_on g v p.1)
+pub takes_none : (topology : TopologyView) (v : ℕ) (marks : List Bool) → Takes topology v 0 marks []
+takes_none topology v marks = record {
+  from = λ j below. absurd (omega (arith, below));
+  taken = λ k below. absurd (omega (arith, below));
+  range = λ k d below. absurd (omega (arith, below));
+}
 
--- where a segment leads is its other end
-pub leads_to : (topology : TopologyView) (s v u : ℕ) → Leads topology s v u → other_end (segment_at topology s) v ≡ u
-leads_to topology s v u leads =
-    let g = segment_at topology s in
-    elim leads.1 [
-      | inl p ↦ cond-true (g.from == v) g.to g.from (eq-eqb g.from v p.0) ∙ p.1
-      | inr p ↦ elim (cases_eq g.from v) [
-        | inl e ↦ cond-true (g.from == v) g.to g.from (eq-eqb g.from v e) ∙ (p.1 ∙ (sym e ∙ p.0))
-        | inr n ↦ cond-false (g.from == v) g.to g.from (ne_eqb g.from v n) ∙ p.0
-      ]
-    ]
+pub takes_skip : (topology : TopologyView) (v done : ℕ) (marks : List Bool) (ways : List Way)
+    → get_or marks (nth topology v done) false ≡ false → Takes topology v done marks ways → Takes topology v (done + 1) marks ways
+takes_skip topology v done marks ways unmarked t = record {
+  from = t.from;
+  taken = λ k below marked. elim (cases_eq k done) [
+    | inl e ↦ absurd (both_ways (get_or marks (nth topology v done) false) unmarked
+        (subst (λ j. IsTrue (get_or marks (nth topology v j) false)) e marked))
+    | inr other ↦ t.taken k (omega arith) marked
+  ];
+  range = t.range;
+}
 
--- the segments are seen as their numbers
-pub seen_at : (list : List SegmentNo) (numbers : List ℕ) (k : ℕ) (d : SegmentNo) → map (λ s. s.0) list ≡ numbers → k < length list
-    → (k < length numbers) × ((get_or list k d).0 ≡ slice_index numbers k)
-seen_at list numbers k d e h =
-    let len : length numbers ≡ length list = ap length (sym e) ∙ length-map list (λ (s : SegmentNo). s.0) in
-    let other = get_or-map (λ (s : SegmentNo). s.0) list k d 0 h in
-    (omega (arith, len), sym other ∙ ap (λ (l : List ℕ). get_or l k 0) e)
+pub takes_more : (topology : TopologyView) (v done : ℕ) (marks : List Bool) (ways : List Way) (way : Way)
+    → done < length (open_at topology v) → way ≡ way_from topology v (nth topology v done)
+    → v < length topology.nodes → way.to.0 < length topology.nodes → way.price ≤ 1000000
+    → Takes topology v done marks ways → Takes topology v (done + 1) marks (ways ++ way ∷ [])
+takes_more topology v done marks ways way within is node to_in_range cheap t =
+    let longer : length (ways ++ way ∷ []) ≡ length ways + 1 = length-append ways (way ∷ []) in
+    let last : way_at (ways ++ way ∷ []) (length ways) ≡ way = get_or_push ways way no_way (length ways) refl in
+    record {
+      from = λ j below. elim (cases_eq j (length ways)) [
+        | inl e ↦ (nth topology v done, nth-leads topology v done within, ap (way_at (ways ++ way ∷ [])) e ∙ last ∙ is)
+        | inr other ↦
+            let front : j < length ways = omega (arith, below, longer, other) in
+            let (s, leads, at) = t.from j front in
+            (s, leads, get_or_append_left ways (way ∷ []) no_way j front ∙ at)
+      ];
+      taken = λ k below marked. elim (cases_eq k done) [
+        | inl e ↦ (length ways, omega (arith, longer), last ∙ is ∙ ap (λ j. way_from topology v (nth topology v j)) (sym e))
+        | inr other ↦
+            let (j, front, at) = t.taken k (omega arith) marked in
+            (j, omega (arith, front, longer), get_or_append_left ways (way ∷ []) no_way j front ∙ at)
+      ];
+      range = All-push (λ w. (w.from.0 < length topology.nodes) × (w.to.0 < length topology.nodes) × (w.price ≤ 1000000)) ways way t.range
+          (subst (λ (w : Way). w.from.0 < length topology.nodes) (sym is) node, to_in_range, cheap);
+    }
 
-abbrev pub first_segment : SegmentNo
-first_segment = record { 0 = 0 }
-
-pub seen_len : (list : List SegmentNo) (numbers : List ℕ) → map (λ s. s.0) list ≡ numbers → length numbers ≡ length list
-seen_len list numbers e = ap length (sym e) ∙ length-map list (λ (s : SegmentNo). s.0)
-
-pub in_range_more : (n : ℕ) (ways : List Way) (way : Way) → way.to < n → way.price ≤ 1000000
-    → AreInRange n ways → AreInRange n (ways ++ way ∷ [])
-in_range_more n ways way to price all = All-push (λ (w : Way). (w.to < n) × (w.price ≤ 1000000)) ways way all (to, price)
-
--- a segment of the list is one of the topology
-pub seen_segment : (topology : TopologyView) (v : ℕ) (list : List SegmentNo) (k : ℕ) (d : SegmentNo) → map (λ s. s.0) list ≡ open_at topology v → k < length list
-    → (get_or list k d).0 < length topology.segments
-seen_segment topology v list k d e h =
-    let seen = seen_at list (open_at topology v) k d e h in
-    omega (arith, seen.1, (open_at-in topology v k seen.0).0)
-
--- the way over a segment of the list is the way of its place
-pub seen_way : (topology : TopologyView) (v : ℕ) (list : List SegmentNo) (k : ℕ) (d : SegmentNo) (way : Way) → map (λ s. s.0) list ≡ open_at topology v → k < length list
-    → way.to ≡ other_end (segment_at topology (get_or list k d).0) v → way.price ≡ price_at topology (get_or list k d).0
-    → (k < length (open_at topology v)) × (way.to ≡ way_to topology v k) × (way.price ≡ way_price topology v k)
-seen_way topology v list k d way e h to price =
-    let seen = seen_at list (open_at topology v) k d e h in
-    (seen.0, to ∙ ap (λ (s : ℕ). other_end (segment_at topology s) v) seen.1, price ∙ ap (price_at topology) seen.1)
+-- once all open segments were looked at
+pub takes_ways : (topology : TopologyView) (v done : ℕ) (marks : List Bool) (ways : List Way) → MarksCheapest topology marks
+    → length (open_at topology v) ≤ done → Takes topology v done marks ways → AreWaysFrom topology v ways
+takes_ways topology v done marks ways marked all t = record {
+  leads = λ j below.
+      let (s, leads, at) = t.from j below in
+      (s, subst (λ (w : Way). Leads topology s v w.to.0) (sym at) leads, ap (λ (w : Way). w.price) at);
+  covers = λ s u leads.
+      let (c, is_cheapest, there, price) = some_cheapest topology s v u leads in
+      let n = nth-from_leads topology c v u there in
+      let mark : IsTrue (get_or marks c false) = (marked c (below-from_Leads topology c v u there)).1 is_cheapest in
+      let (j, below, at) = t.taken n.place (omega (arith, n.within, all)) (subst (λ k. IsTrue (get_or marks k false)) (sym n.same) mark) in
+      (j, below, ap (λ (w : Way). w.to.0) at ∙ n.end, omega (arith, ap (λ (w : Way). w.price) at, n.price, price));
+}

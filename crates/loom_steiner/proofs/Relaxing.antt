@@ -7,8 +7,8 @@ use Rattle.std.proofs.lemmas.List.{get_or-set_same, get_or-set_other}
 use Rattle.std.proofs.lemmas.List.Sorted.{Contains-permutation, All-permutation}
 use Rattle.std.proofs.lemmas.List.Elements.{All-cons}
 use Rattle.loom_steiner.specs.declared.worklist.Offer.{Offer}
-use Rattle.loom_steiner.specs.declared.ways.Way.{Way}
-use Rattle.loom_steiner.specs.Ways.{way_at, no_way, AreInRange}
+use Rattle.loom_topology.specs.declared.ways.Way.{Way}
+use Rattle.loom_topology.specs.Ways.{way_at, no_way, AreInRange}
 use Rattle.loom_steiner.specs.Row.{ImprovesFrom, IsCapped, IsAttained, IsBoundedFrom}
 use Rattle.loom_steiner.specs.Worklist.{KeepsWaiting, offer}
 use Rattle.std.proofs.lemmas.Bool.{cases_eq}
@@ -18,7 +18,7 @@ use Rattle.loom_steiner.proofs.Rows.{lower-set, attained-set, bounded-set}
 pub record Relaxes (from : List Way) (node cost done : ℕ) (row new : List ℕ) (waiting more : List (Reverse Offer)) : Type 0 where
   pub improves : ImprovesFrom node from row new
   pub own : slice_index new node ≡ cost
-  pub settled : (k : ℕ) → k < done → slice_index new (way_at from k).to ≤ cost + (way_at from k).price
+  pub settled : (k : ℕ) → k < done → slice_index new (way_at from k).to.0 ≤ cost + (way_at from k).price
   pub keeps : KeepsWaiting row new waiting more
   pub offers : All (λ o. o.0.node < length row) more
 
@@ -38,13 +38,13 @@ Contains-here x xs = (0, omega arith, refl)
 
 -- a way that betters nothing changes nothing
 pub Relaxes-keep : (from : List Way) (node cost k : ℕ) (row new : List ℕ) (waiting more : List (Reverse Offer))
-    → slice_index new (way_at from k).to ≤ cost + (way_at from k).price
+    → slice_index new (way_at from k).to.0 ≤ cost + (way_at from k).price
     → Relaxes from node cost k row new waiting more → Relaxes from node cost (k + 1) row new waiting more
 Relaxes-keep from node cost k row new waiting more better r = record {
   improves = r.improves;
   own = r.own;
   settled = λ j h. elim (cases_eq j k) [
-    | inl e ↦ subst (λ (w : ℕ). slice_index new (way_at from w).to ≤ cost + (way_at from w).price) (sym e) better
+    | inl e ↦ subst (λ (w : ℕ). slice_index new (way_at from w).to.0 ≤ cost + (way_at from w).price) (sym e) better
     | inr n ↦ r.settled j (omega arith)
   ];
   keeps = r.keeps;
@@ -80,43 +80,43 @@ keeps-push row new to through waiting more pushed range permutation keeps =
 -- a way that betters the number at its end lowers it and puts it on the worklist
 pub Relaxes-push : (from : List Way) (node cost k : ℕ) (row new : List ℕ) (waiting more pushed : List (Reverse Offer))
     → node < length row → k < length from → AreInRange (length row) from → IsCapped row
-    → cost + (way_at from k).price < slice_index new (way_at from k).to
-    → IsPermutation (offer (cost + (way_at from k).price) (way_at from k).to ∷ more) pushed
+    → cost + (way_at from k).price < slice_index new (way_at from k).to.0
+    → IsPermutation (offer (cost + (way_at from k).price) (way_at from k).to.0 ∷ more) pushed
     → Relaxes from node cost k row new waiting more
-    → Relaxes from node cost (k + 1) row (set new (way_at from k).to (cost + (way_at from k).price)) waiting pushed
+    → Relaxes from node cost (k + 1) row (set new (way_at from k).to.0 (cost + (way_at from k).price)) waiting pushed
 Relaxes-push from node cost k row new waiting more pushed node_range within ranges capped lower permutation r =
     let way = way_at from k in
     let through = cost + way.price in
-    let after = set new way.to through in
-    let in_row : way.to < length row = (ranges k no_way within).0 in
-    let in_new : way.to < length new = omega (arith, r.improves.len) in
-    let cheap : way.price ≤ 1000000 = (ranges k no_way within).1 in
+    let after = set new way.to.0 through in
+    let in_row : way.to.0 < length row = (ranges k no_way within).1 in
+    let in_new : way.to.0 < length new = omega (arith, r.improves.len) in
+    let cheap : way.price ≤ 1000000 = (ranges k no_way within).2 in
     let cap : IsCapped new = λ v. omega (arith, r.improves.lower v, capped v) in
-    let fall = λ (v : ℕ). lower-set new way.to through v in_new lower in
+    let fall = λ (v : ℕ). lower-set new way.to.0 through v in_new lower in
     let own : slice_index new node ≡ cost = r.own in
-    let from_own : slice_index new node + way.price < slice_index new way.to = omega arith in
+    let from_own : slice_index new node + way.price < slice_index new way.to.0 = omega arith in
     let same : slice_index new node + way.price ≡ through = omega arith in
     let node_new : node < length new = omega (arith, r.improves.len) in
-    let other : node ≢ way.to = λ e. (let f : slice_index new way.to ≡ cost = subst (λ (w : ℕ). slice_index new w ≡ cost) e own in omega arith) in
+    let other : node ≢ way.to.0 = λ e. (let f : slice_index new way.to.0 ≡ cost = subst (λ (w : ℕ). slice_index new w ≡ cost) e own in omega arith) in
     record {
       improves = record {
-        len = length-set new way.to through ∙ r.improves.len;
+        len = length-set new way.to.0 through ∙ r.improves.len;
         lower = λ v. omega (arith, fall v, r.improves.lower v);
         attained = λ topology cavities are_ways attained.
-            subst (λ (m : ℕ). IsAttained topology cavities (set new way.to m)) same
+            subst (λ (m : ℕ). IsAttained topology cavities (set new way.to.0 m)) same
             (attained-set topology cavities from new node k are_ways within node_new in_new from_own cap
             (r.improves.attained topology cavities are_ways attained));
         bounded = λ base bounded.
-            subst (λ (m : ℕ). IsBoundedFrom base (set new way.to m)) same
-            (bounded-set base new node way.to way.price node_new in_new cheap from_own (cap way.to) (r.improves.bounded base bounded));
+            subst (λ (m : ℕ). IsBoundedFrom base (set new way.to.0 m)) same
+            (bounded-set base new node way.to.0 way.price node_new in_new cheap from_own (cap way.to.0) (r.improves.bounded base bounded));
       };
-      own = get_or-set_other new way.to node through 0 other ∙ own;
+      own = get_or-set_other new way.to.0 node through 0 other ∙ own;
       settled = λ j h. elim (cases_eq j k) [
-        | inl e ↦ subst (λ (w : ℕ). slice_index after (way_at from w).to ≤ cost + (way_at from w).price) (sym e)
-            (omega (arith, get_or-set_same new way.to through 0 in_new))
-        | inr n ↦ omega (arith, fall (way_at from j).to, r.settled j (omega arith))
+        | inl e ↦ subst (λ (w : ℕ). slice_index after (way_at from w).to.0 ≤ cost + (way_at from w).price) (sym e)
+            (omega (arith, get_or-set_same new way.to.0 through 0 in_new))
+        | inr n ↦ omega (arith, fall (way_at from j).to.0, r.settled j (omega arith))
       ];
-      keeps = keeps-push row new way.to through waiting more pushed in_new permutation r.keeps;
+      keeps = keeps-push row new way.to.0 through waiting more pushed in_new permutation r.keeps;
       offers = All-permutation (λ o. o.0.node < length row) _ _ permutation
-          (All-cons (λ (o : Reverse Offer). o.0.node < length row) (offer through way.to) more in_row r.offers);
+          (All-cons (λ (o : Reverse Offer). o.0.node < length row) (offer through way.to.0) more in_row r.offers);
     }

@@ -6,8 +6,9 @@ use Rattle.std.proofs.lemmas.Bool.Decides.{nat_tests}
 use Rattle.loom_topology.specs.Topology.{TopologyView, Leads, price_at}
 use Rattle.loom_topology.specs.TreeCost.{HasTree}
 use Rattle.loom_steiner.specs.declared.ways.TheConstants.{NO_TREE}
-use Rattle.loom_steiner.specs.declared.ways.Way.{Way}
-use Rattle.loom_steiner.specs.Ways.{AreWaysFrom, way_at}
+use Rattle.loom_topology.specs.declared.ways.Way.{Way}
+use Rattle.loom_topology.specs.Ways.{way_at}
+use Rattle.loom_steiner.specs.Ways.{AreWaysFrom}
 use Rattle.loom_steiner.specs.Row.{IsAttained, IsBoundedFrom, IsCapped, reached}
 use Rattle.loom_topology.proofs.Over.{step_adds_price}
 use Rattle.std.proofs.lemmas.Bool.{cases_lt, cases_eq}
@@ -67,25 +68,25 @@ bounded-set base row node to price node_range to_range cheap lower cap bounded v
 
 -- a cost that is taken over a way is that of a tree
 pub attained-set : (topology : TopologyView) (cavities : List ℕ) (from : List Way) (row : List ℕ) (node k : ℕ)
-    → AreWaysFrom topology node from → k < length from → node < length row → (way_at from k).to < length row
-    → slice_index row node + (way_at from k).price < slice_index row (way_at from k).to → IsCapped row
+    → AreWaysFrom topology node from → k < length from → node < length row → (way_at from k).to.0 < length row
+    → slice_index row node + (way_at from k).price < slice_index row (way_at from k).to.0 → IsCapped row
     → IsAttained topology cavities row
-    → IsAttained topology cavities (set row (way_at from k).to (slice_index row node + (way_at from k).price))
+    → IsAttained topology cavities (set row (way_at from k).to.0 (slice_index row node + (way_at from k).price))
 attained-set topology cavities from row node k are_ways within node_range to_range lower capped attained v range number =
     let way = way_at from k in
     let through = slice_index row node + way.price in
-    let new = set row way.to through in
-    let cap = capped way.to in
-    elim (cases_eq v way.to) [
-      | inl h ↦ (let e = get_or-set_same row way.to through 0 to_range in
+    let new = set row way.to.0 through in
+    let cap = capped way.to.0 in
+    elim (cases_eq v way.to.0) [
+      | inl h ↦ (let e = get_or-set_same row way.to.0 through 0 to_range in
           let l = are_ways.leads k within in
-          let back : Leads topology l.0 way.to node = (l.1.0, elim l.1.1 [ inl p ↦ inr p | inr p ↦ inl p ]) in
-          let t = step_adds_price topology cavities l.0 way.to node (slice_index row node) back (attained node node_range (omega arith)) in
+          let back : Leads topology l.0 way.to.0 node = (l.1.0, elim l.1.1 [ inl p ↦ inr p | inr p ↦ inl p ]) in
+          let t = step_adds_price topology cavities l.0 way.to.0 node (slice_index row node) back (attained node node_range (omega arith)) in
           let p : price_at topology l.0 ≡ way.price = sym l.2 in
-          let f : slice_index new way.to ≡ slice_index row node + price_at topology l.0 = omega (arith, e, p) in
+          let f : slice_index new way.to.0 ≡ slice_index row node + price_at topology l.0 = omega (arith, e, p) in
           subst (λ (w : ℕ). HasTree topology cavities w (slice_index new w)) (sym h)
-          (subst (λ (m : ℕ). HasTree topology cavities way.to m) (sym f) t))
-      | inr h ↦ (let e = get_or-set_other row way.to v through 0 h in
+          (subst (λ (m : ℕ). HasTree topology cavities way.to.0 m) (sym f) t))
+      | inr h ↦ (let e = get_or-set_other row way.to.0 v through 0 h in
           let o = attained v (omega (arith, length-set {A = ℕ})) (omega (arith, e)) in
           subst (λ (m : ℕ). HasTree topology cavities v m) (sym e) o)
     ]

@@ -8,8 +8,8 @@ use Rattle.std.proofs.lemmas.List.Sorted.{Contains-permutation, All-permutation}
 use Rattle.std.proofs.lemmas.List.Elements.{All-tail}
 use Rattle.std.proofs.lemmas.Map.Made.{Contains-tail}
 use Rattle.loom_steiner.specs.declared.worklist.Offer.{Offer}
-use Rattle.loom_steiner.specs.declared.ways.Way.{Way}
-use Rattle.loom_steiner.specs.Ways.{way_at}
+use Rattle.loom_topology.specs.declared.ways.Way.{Way}
+use Rattle.loom_topology.specs.Ways.{way_at}
 use Rattle.loom_steiner.specs.Row.{Improves, ImprovesFrom}
 use Rattle.loom_steiner.specs.Worklist.{IsSettling, IsSettled, IsSettledAt, IsSettledFrom, KeepsWaiting, offer}
 use Rattle.std.proofs.lemmas.Bool.{cases_eq}
@@ -84,7 +84,7 @@ Settles-relaxed ways d row new after waiting rest more popped permutation range 
               (λ e. n (sym (ap (λ (o : Reverse Offer). o.0.node) e)))
               (Contains-permutation _ _ _ permutation waits)))
           | inr at ↦ elim (keeps.fell u) [
-            | inl same ↦ inr (λ d2 k within. omega (arith, improves.lower (way_at (slice_index_or ways u d2).now k).to, at d2 k within, same))
+            | inl same ↦ inr (λ d2 k within. omega (arith, improves.lower (way_at (slice_index_or ways u d2).now k).to.0, at d2 k within, same))
             | inr waits ↦ inl waits
           ]
         ]

@@ -1,6 +1,6 @@
 use Rattle.std.proofs.Common.{List, [], ◌∷◌, ℕ, ◌+◌, ◌/◌, ◌%◌, ◌^◌, ◌<◌, ◌≤◌, ◌≡◌, length, drop, bit_and, inl, inr, refl, ap, arith, length-drop}
 use Rattle.std.specs.Int.Bits.{and_step}
-use Rattle.loom_topology.specs.Legal.{chosen, cavities_of}
+use Rattle.loom_topology.specs.Legal.{chosen, cavities_of_mask}
 use Rattle.loom_topology.proofs.Hangs.{chosen-one, chosen-none}
 use Rattle.loom_topology.proofs.Masks.{power_is_one_cavity}
 use Rattle.std.proofs.lemmas.Bool.{cases_eq}
@@ -27,11 +27,11 @@ size-bound (c ∷ cs) mask = omega (arith, size-cons c cs mask, size-bound cs (m
 
 -- two masks that are apart have their cavities together
 pub cavities-sum : (terminals : List ℕ) (a b : ℕ) → bit_and a b ≡ 0
-    → length (cavities_of terminals (a + b)) ≡ length (cavities_of terminals a) + length (cavities_of terminals b)
+    → length (cavities_of_mask terminals (a + b)) ≡ length (cavities_of_mask terminals a) + length (cavities_of_mask terminals b)
 cavities-sum terminals a b apart = size-sum (drop 1 terminals) a b apart
 
-pub cavities-one : (terminals : List ℕ) (i : ℕ) → i + 1 < length terminals → length (cavities_of terminals (2 ^ i)) ≡ 1
+pub cavities-one : (terminals : List ℕ) (i : ℕ) → i + 1 < length terminals → length (cavities_of_mask terminals (2 ^ i)) ≡ 1
 cavities-one terminals i range = ap length (power_is_one_cavity terminals i range)
 
-pub cavities-bound : (terminals : List ℕ) (mask : ℕ) → length (cavities_of terminals mask) + 1 ≤ length terminals + 1
+pub cavities-bound : (terminals : List ℕ) (mask : ℕ) → length (cavities_of_mask terminals mask) + 1 ≤ length terminals + 1
 cavities-bound terminals mask = omega (arith, size-bound (drop 1 terminals) mask, length-drop 1 terminals)

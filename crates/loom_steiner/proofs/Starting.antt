@@ -7,7 +7,7 @@ use Rattle.std.proofs.lemmas.List.{get_or_default}
 use Rattle.std.proofs.lemmas.List.Sorted.{Contains-permutation, All-permutation}
 use Rattle.std.proofs.lemmas.List.Elements.{All-cons}
 use Rattle.loom_steiner.specs.declared.worklist.Offer.{Offer}
-use Rattle.loom_steiner.specs.declared.ways.Way.{Way}
+use Rattle.loom_topology.specs.declared.ways.Way.{Way}
 use Rattle.loom_steiner.specs.Worklist.{IsSettledAt, IsSettledFrom, offer}
 use Rattle.std.proofs.lemmas.Bool.{cases_eq}
 use Rattle.loom_steiner.proofs.Relaxing.{Contains-here, Contains-more}

@@ -10,7 +10,7 @@ use Rattle.std.proofs.lemmas.Nat.{mod-mul-add}
 use Rattle.loom_base.specs.declared.positions.CavityNo.{CavityNo}
 use Rattle.loom_topology.specs.Topology.{TopologyView, node_of, IsSound}
 use Rattle.loom_topology.proofs.Sound.{sound-cavity}
-use Rattle.loom_steiner.specs.declared.ways.Way.{Way}
+use Rattle.loom_topology.specs.declared.ways.Way.{Way}
 use Rattle.loom_steiner.specs.Begin.{IsRow}
 use Rattle.loom_steiner.specs.Ground.{IsGround}
 use Rattle.loom_steiner.specs.Filled.{IsFilled}

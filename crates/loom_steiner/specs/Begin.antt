@@ -1,7 +1,7 @@
 use Rattle.std.specs.Prelude.{ℕ, List, ◌≡◌, ◌⊎◌, ◌<◌, ◌≤◌, length, slice_index}
 use Rattle.std.specs.Borrow.{Bor}
 use Rattle.loom_steiner.specs.declared.ways.TheConstants.{NO_TREE}
-use Rattle.loom_steiner.specs.declared.ways.Way.{Way}
+use Rattle.loom_topology.specs.declared.ways.Way.{Way}
 use Rattle.loom_steiner.specs.Row.{IsCapped, Improves}
 use Rattle.loom_steiner.specs.Worklist.{IsSettled}
 use Rattle.loom_steiner.specs.Split.{IsPart, split_cost}

@@ -2,8 +2,9 @@ use Rattle.std.specs.Prelude.{ℕ, List, ◌≡◌, ◌<◌, ◌≤◌, length, 
 use Rattle.std.specs.List.{All}
 use Rattle.std.specs.Borrow.{Bor}
 use Rattle.loom_topology.specs.Topology.{TopologyView, branch_at}
-use Rattle.loom_steiner.specs.declared.ways.Way.{Way}
-use Rattle.loom_steiner.specs.Ways.{AreWays, AreInRange}
+use Rattle.loom_topology.specs.declared.ways.Way.{Way}
+use Rattle.loom_topology.specs.Ways.{AreInRange}
+use Rattle.loom_steiner.specs.Ways.{AreWays}
 
 -- the ways from the nodes of a topology, and the branch costs there
 pub record IsGround (topology : TopologyView) (ways : List (Bor (List Way))) (branches : List ℕ) : Type 0 where

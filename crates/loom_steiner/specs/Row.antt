@@ -3,7 +3,7 @@ use Rattle.std.specs.Borrow.{Bor}
 use Rattle.loom_topology.specs.Topology.{TopologyView}
 use Rattle.loom_topology.specs.TreeCost.{HasTree}
 use Rattle.loom_steiner.specs.declared.ways.TheConstants.{NO_TREE}
-use Rattle.loom_steiner.specs.declared.ways.Way.{Way}
+use Rattle.loom_topology.specs.declared.ways.Way.{Way}
 use Rattle.loom_steiner.specs.Ways.{AreWays, AreWaysFrom}
 
 -- a cost in 64 bits, where NO_TREE stands for None

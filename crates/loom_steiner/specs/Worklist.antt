@@ -3,8 +3,8 @@ use Rattle.std.specs.List.{Contains}
 use Rattle.std.specs.Borrow.{Bor}
 use Rattle.std.specs.declared.cmp.Reverse.{Reverse}
 use Rattle.loom_steiner.specs.declared.worklist.Offer.{Offer}
-use Rattle.loom_steiner.specs.declared.ways.Way.{Way}
-use Rattle.loom_steiner.specs.Ways.{way_at}
+use Rattle.loom_topology.specs.declared.ways.Way.{Way}
+use Rattle.loom_topology.specs.Ways.{way_at}
 
 -- what stands on the worklist for a node of this cost
 abbrev pub offer : ℕ → ℕ → Reverse Offer
@@ -12,7 +12,7 @@ offer cost node = record { 0 = record { cost = cost; node = node } }
 
 -- no way from a node of this cost betters the number at its end
 abbrev pub IsSettledFrom : List Way → List ℕ → ℕ → Type 0
-IsSettledFrom from row cost = (k : ℕ) → k < length from → slice_index row (way_at from k).to ≤ cost + (way_at from k).price
+IsSettledFrom from row cost = (k : ℕ) → k < length from → slice_index row (way_at from k).to.0 ≤ cost + (way_at from k).price
 
 abbrev pub IsSettledAt : List (Bor (List Way)) → List ℕ → ℕ → Type 0
 IsSettledAt ways row u = (d : Bor (List Way)) → IsSettledFrom (slice_index_or ways u d).now row (slice_index row u)

@@ -2,7 +2,7 @@ ghost use Rattle.std.specs.Prelude.{◌≡◌, ◌<◌, ◌≤◌, length, map, 
 ghost use Rattle.std.specs.List.{All};
 ghost use Rattle.loom_steiner.specs.LeastTable.{IsLeastTable};
 
-use crate::ground::{all_branches, all_ways};
+use crate::ground::Ground;
 use crate::row::fill_row;
 use crate::scratch_table::ScratchTable;
 use crate::ways::NO_TREE;
@@ -27,8 +27,7 @@ pub fn fill<'s>(
 {
     let nodes = topology.node_count();
     let end = 1u32 << (terminals.len() - 1);
-    let ways = all_ways(scratch, topology)?;
-    let branches = all_branches(scratch, topology)?;
+    let ground = Ground::new(scratch, topology)?;
     let mut cells = Vec::with_capacity(scratch, (end as usize - 1) * nodes as usize)?;
     let row = scratch.try_alloc_slice_fill_clone(nodes as usize, NO_TREE)?;
     let mut worklist = BinaryHeap::new(scratch);
@@ -36,16 +35,7 @@ pub fn fill<'s>(
         let bit = mask.ilog2();
         let high = 1u32 << bit;
         let home = topology.cavity_node(terminals[bit as usize + 1]).0 as usize;
-        fill_row(
-            ways,
-            branches,
-            &cells,
-            high,
-            mask - high,
-            home,
-            row,
-            &mut worklist,
-        )?;
+        fill_row(&ground, &cells, high, mask - high, home, row, &mut worklist)?;
         cells.extend_from_slice(row)?;
     }
     Ok(ScratchTable::of(end - 1, nodes, into_bump_slice(cells)))

@@ -2,6 +2,7 @@
 //! rows of smaller sets by splits, and then spread over the segments from a worklist.
 #![tactic(auto)]
 
+mod filler;
 mod filling;
 mod ground;
 mod least_table;
@@ -13,6 +14,7 @@ mod tests;
 mod ways;
 mod worklist;
 
+pub use filler::{DirectFiller, Filler};
 pub use filling::fill;
 pub use least_table::table;
 pub use scratch_table::ScratchTable;

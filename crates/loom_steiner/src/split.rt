@@ -9,7 +9,8 @@ pub fn row_of(cells: &[u64], mask: usize, nodes: usize) -> &[u64]
     requires from { 1 ≤ mask }
     requires to { mask * nodes ≤ length cells.now }
     ensures len { length result.now ≡ nodes }
-    ensures value { (v : ℕ) → v < nodes → slice_index result.now v ≡ cell_in cells.now nodes mask v }
+    ensures value { (v : ℕ) → v < nodes
+        → slice_index result.now v ≡ cell_in cells.now nodes mask v }
 {
     &cells[(mask - 1) * nodes..mask * nodes]
 }
@@ -22,7 +23,9 @@ fn join(row: &mut [u64], first: &[u64], second: &[u64], branches: &[u64])
     requires first_capped { IsCapped first.now }
     requires second_capped { IsCapped second.now }
     requires cheap { (v : ℕ) → slice_index branches.now v ≤ 1000000 }
-    ensures { (v : ℕ) → v < length row.old → slice_index row.new v ≡ min (slice_index row.old v) (slice_index first.now v + slice_index second.now v + slice_index branches.now v) }
+    ensures { (v : ℕ) → v < length row.old → slice_index row.new v
+        ≡ min (slice_index row.old v)
+        (slice_index first.now v + slice_index second.now v + slice_index branches.now v) }
 {
     for v in 0..row.len() {
         row[v] = row[v].min(first[v] + second[v] + branches[v]);

@@ -1,7 +1,8 @@
-ghost use Rattle.std.specs.Prelude.{◌≡◌, ◌<◌, length, IfOk};
+ghost use Rattle.std.specs.Prelude.{◌≡◌, ◌<◌, length, IfOk, OnOk};
+ghost use Rattle.loom_base.specs.Causes.{next_count};
 ghost use Rattle.std.specs.List.{All};
 
-use crate::{fill, table};
+use crate::{DirectFiller, Filler, fill, table};
 use bumpalo::Bump;
 use loom_base::{Branch, CavityNo, NoMemory, NodeNo, Pins, Price, SegmentNo};
 use loom_topology::{Kind, Table, Topology};
@@ -101,7 +102,8 @@ fn row(alloc: Global, table: &Table, mask: u32) -> Result<Vec<Option<u64>>, Fail
 /// The cavities of a topology, in order.
 fn all_cavities(alloc: Global, topology: &Topology) -> Result<Vec<CavityNo>, NoMemory>
     ensures len { IfOk result (λ cavities. length cavities.items ≡ length topology.now.cavities) }
-    ensures in_range { IfOk result (λ cavities. All (λ cavity. cavity.0 < length topology.now.cavities) cavities.items) }
+    ensures in_range { IfOk result (λ cavities.
+        All (λ cavity. cavity.0 < length topology.now.cavities) cavities.items) }
 {
     let mut cavities = Vec::new(alloc);
     for cavity in 0..topology.cavity_count() {
@@ -204,5 +206,26 @@ fn a_star_of_twelve(rt: HostRuntime) -> Result<(), Fail> {
         ]
         .as_slice()
     );
+    Ok(())
+}
+
+/// The table of the first two cavities, through a filler.
+fn filled<F: Filler>(alloc: Global, filler: &mut F, topology: &Topology) -> Result<Table, NoMemory>
+    requires { length topology.now.cavities ≡ 2 }
+    ensures { OnOk result (F.count filler.new ≡ next_count (F.count filler.old)) }
+{
+    filler.table(alloc, topology, &[CavityNo(0), CavityNo(1)])
+}
+
+#[test]
+fn tables_are_counted(rt: HostRuntime) -> Result<(), Fail> {
+    let alloc = rt.alloc();
+    let topology = built(alloc, &[5], &[0, 0], &[])?;
+    assert!(rt; topology.cavity_count() == 2);
+    let mut filler = DirectFiller::new();
+    assert_eq!(rt; filler.built(), 0);
+    let table = filled(alloc, &mut filler, &topology)?;
+    assert_eq!(rt; row(alloc, &table, 1)?.as_slice(), [Some(0)].as_slice());
+    assert_eq!(rt; filler.built(), 1);
     Ok(())
 }

@@ -1,13 +1,14 @@
 ghost use Rattle.std.specs.Prelude.{◌≡◌, ◌+◌, ◌*◌, ◌^◌, ◌<◌, ◌≤◌, [], false, length, sum, slice_index, OnOk};
 ghost use Rattle.std.specs.List.{All};
 ghost use Rattle.std.specs.BinaryHeap.{heap_items, heap_len};
-ghost use Rattle.loom_steiner.specs.Ways.{AreInRange};
+ghost use Rattle.loom_topology.specs.Ways.{AreInRange};
 ghost use Rattle.loom_steiner.specs.Row.{IsCapped, Improves, ImprovesFrom};
 ghost use Rattle.loom_steiner.specs.Worklist.{IsSettledFrom, IsSettled, IsSettling, KeepsWaiting};
 
-use crate::ways::{NO_TREE, Way};
+use crate::ways::NO_TREE;
 use bumpalo::Bump;
 use loom_base::NoMemory;
+use loom_topology::Way;
 use std::cmp::Reverse;
 use std::collections::BinaryHeap;
 
@@ -27,7 +28,7 @@ fn betters(from: &[Way], row: &[u64], cost: u64) -> bool
     ensures { result ≡ false → IsSettledFrom from.now row.now cost }
 {
     from.iter()
-        .any(|way| cost + way.price < row[way.to as usize])
+        .any(|way| cost + way.price < row[way.to.0 as usize])
 }
 
 /// Offers a node's number over each way from it.
@@ -39,19 +40,21 @@ fn relax(from: &[Way], node: u32, row: &mut [u64], worklist: &mut Worklist) -> R
     ensures improves { OnOk result (ImprovesFrom node from.now row.old row.new) }
     ensures own { OnOk result (slice_index row.new node ≡ slice_index row.old node) }
     ensures settled { OnOk result (IsSettledFrom from.now row.new (slice_index row.old node)) }
-    ensures waiting { OnOk result (KeepsWaiting row.old row.new (heap_items worklist.old) (heap_items worklist.new)) }
+    ensures waiting { OnOk result (KeepsWaiting row.old row.new (heap_items worklist.old)
+        (heap_items worklist.new)) }
     ensures offers { OnOk result (All (λ o. o.0.node < length row.old) (heap_items worklist.new)) }
-    ensures work { OnOk result (2 * sum row.new + heap_len worklist.new ≤ 2 * sum row.old + heap_len worklist.old) }
+    ensures work { OnOk result (2 * sum row.new + heap_len worklist.new
+        ≤ 2 * sum row.old + heap_len worklist.old) }
 {
     let cost = row[node as usize];
     for way in from {
-        let to = way.to as usize;
+        let to = way.to.0 as usize;
         let through = cost + way.price;
         if through < row[to] {
             row[to] = through;
             worklist.push(Reverse(Offer {
                 cost: through,
-                node: way.to,
+                node: way.to.0,
             }))?;
         }
     }

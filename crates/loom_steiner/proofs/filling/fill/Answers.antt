@@ -25,8 +25,8 @@ loop-mask-preserved c =
     let numbers = numbers_of terminals in
     let bit = c.ilog2-bit.result in
     let mask = c.loop-mask.mask in
-    let ways = c.in_ok-ways.ways.now in
-    let branches = c.in_ok-branches.branches.now in
+    let ways = c.in_ok-ground.ground.ways.now in
+    let branches = c.in_ok-ground.ground.branches.now in
     let cells = c.loop-mask.cells.items in
     let row = c.fill_row.new.row in
     let sound = c.node_count-nodes.ensures.sound in
@@ -37,14 +37,7 @@ loop-mask-preserved c =
     let small : mask < 2 ^ 32 = omega (arith, last, end.1) in
     let high = shifted bit mask c.ilog2-bit.ensures.power_le small in
     let range = bit_below bit mask (length terminals) c.ilog2-bit.ensures.power_le last in
-    let ground : IsGround topology ways branches = record {
-      ways_len = c.in_ok-ways.ensures.len;
-      branches_len = c.in_ok-branches.ensures.len;
-      are_ways = c.in_ok-ways.ensures.ways;
-      range = c.in_ok-ways.ensures.range;
-      branch = c.in_ok-branches.ensures.value;
-      cheap = c.in_ok-branches.ensures.cheap;
-    } in
+    let ground : IsGround topology ways branches = c.in_ok-ground.ensures in
     let home = home_of topology terminals bit c.cavity_node-home.result.0 _ range c.cavity_node-home.ensures.node in
     let is_row = subst (λ (n : ℕ). IsRow ways cells branches n (1 * 2 ^ bit % 2 ^ 32) (mask - 1 * 2 ^ bit % 2 ^ 32) c.cavity_node-home.result.0 row)
     c.loop-mask.invariant.1
@@ -62,13 +55,13 @@ loop-mask-preserved c =
 pub of-requires : goal.of-requires
 of-requires c =
     let end = end_value (length c.args.terminals.now) c.requires.at_most in
-    ends_whole c.args.topology.now c.args.terminals.now c.in_ok-branches.branches.now c.loop-mask.cells.items c.loop-mask.mask
+    ends_whole c.args.topology.now c.args.terminals.now c.in_ok-ground.ground.branches.now c.loop-mask.cells.items c.loop-mask.mask
     (1 * 2 ^ (length c.args.terminals.now - 1) % 2 ^ 32 - 1) c.node_count-nodes.result c.into_bump_slice.result.now
     (record {
       sound = c.node_count-nodes.ensures.sound;
       few_terminals = c.requires.at_most;
-      value = c.in_ok-branches.ensures.value;
-      cheap = c.in_ok-branches.ensures.cheap;
+      value = c.in_ok-ground.ensures.branch;
+      cheap = c.in_ok-ground.ensures.cheap;
       filled = c.loop-mask.invariant.0;
       last = omega (arith, c.loop-mask-test.false, c.loop-mask.auto.mask-end, end.0, one-le-pow (length c.args.terminals.now - 1) 2 (omega arith));
       masks_are = ap (λ (e : ℕ). e - 1) end.0;
@@ -79,13 +72,13 @@ of-requires c =
 pub returns : goal.returns
 returns c =
     let end = end_value (length c.args.terminals.now) c.requires.at_most in
-    rw c.of.ensures (ends_least c.args.topology.now c.args.terminals.now c.in_ok-branches.branches.now c.loop-mask.cells.items c.loop-mask.mask
+    rw c.of.ensures (ends_least c.args.topology.now c.args.terminals.now c.in_ok-ground.ground.branches.now c.loop-mask.cells.items c.loop-mask.mask
     (1 * 2 ^ (length c.args.terminals.now - 1) % 2 ^ 32 - 1) c.node_count-nodes.result c.into_bump_slice.result.now
     (record {
       sound = c.node_count-nodes.ensures.sound;
       few_terminals = c.requires.at_most;
-      value = c.in_ok-branches.ensures.value;
-      cheap = c.in_ok-branches.ensures.cheap;
+      value = c.in_ok-ground.ensures.branch;
+      cheap = c.in_ok-ground.ensures.cheap;
       filled = c.loop-mask.invariant.0;
       last = omega (arith, c.loop-mask-test.false, c.loop-mask.auto.mask-end, end.0, one-le-pow (length c.args.terminals.now - 1) 2 (omega arith));
       masks_are = ap (λ (e : ℕ). e - 1) end.0;

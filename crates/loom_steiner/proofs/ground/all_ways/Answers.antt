@@ -3,8 +3,6 @@ use Rattle.loom_steiner.proofs.ground.all_ways.Goals as goal
 
 pub loop-node-preserved : goal.loop-node-preserved
 loop-node-preserved c =
-    rw c.in_ok-push.ensures.items (
-      lists_all_more c.args.topology.now c.loop-node.node c.loop-node.ways.items _ c.in_ok-ways_from.ensures.ways c.in_ok-ways_from.ensures.range
-          c.loop-node.invariant.0,
-      c.in_ok-ways_from.ensures.clear,
-    )
+    rw c.in_ok-push.ensures.items
+    (lists_all_more c.args.topology.now c.loop-node.node c.loop-node.ways.items _ c.in_ok-ways_from.ensures.ways c.in_ok-ways_from.ensures.range
+    c.loop-node.invariant)
