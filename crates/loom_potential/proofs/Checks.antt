@@ -1,21 +1,10 @@
 -- How a check of a list goes on from the elements that passed.
-use Rattle.std.proofs.Common.{ℕ, zero, suc, ◌≡◌, ◌+◌, ◌-◌, ◌<◌, ◌≤◌, List, [], ◌∷◌, ◌++◌, Bool, true, false, length, get_or, take, drop, Ok, Err, inl, inr, refl, sym, ap, ◌∙◌, arith, add-zero, add-one}
+use Rattle.std.proofs.Common.{ℕ, zero, suc, ◌≡◌, ◌+◌, ◌-◌, ◌<◌, ◌≤◌, List, [], ◌∷◌, ◌++◌, Bool, true, false, Ok, Err, inl, inr, refl, sym, ap, ◌∙◌, arith, add-zero}
 use Rattle.std.specs.List.{filter, range_with_len}
-use Rattle.std.proofs.Math.Seq.{take-suc, drop-cons}
 use Rattle.std.proofs.lemmas.Bool.{cases_Bool, cases_eq, both_ways}
-use Rattle.std.proofs.lemmas.List.{take-append-drop}
 use Rattle.std.proofs.lemmas.List.Elements.{filter-append}
-use Rattle.loom_potential.specs.First.{Check, ◌>>◌, every}
-
-then_assoc : {F : Type 0} (a b c : Check F) → (a >> (b >> c)) ≡ ((a >> b) >> c)
-then_assoc (Ok p) b c = refl
-then_assoc (Err e) b c = refl
-
-pub then_fails : {F : Type 0} (a b : Check F) (e : F) → a ≡ Err e → (a >> b) ≡ Err e
-then_fails a b e h = rw h refl
-
-pub then_passes : {F : Type 0} (a b : Check F) → a ≡ Ok tt → (a >> b) ≡ b
-then_passes a b h = rw h refl
+use Rattle.loom_base.specs.First.{Check, ◌>>◌, every}
+use Rattle.loom_base.proofs.EachLemmas.{then_fails, then_passes, then-parts, every-push, every-stop}
 
 -- three checks in a row
 pub all_pass : {F : Type 0} (a b c : Check F) → a ≡ Ok tt → b ≡ Ok tt → c ≡ Ok tt → (a >> b >> c) ≡ Ok tt
@@ -26,41 +15,6 @@ second_fails a b c e one two = then_passes a (b >> c) one ∙ then_fails b c e t
 
 pub third_fails : {F : Type 0} (a b c : Check F) (e : F) → a ≡ Ok tt → b ≡ Ok tt → c ≡ Err e → (a >> b >> c) ≡ Err e
 third_fails a b c e one two three = then_passes a (b >> c) one ∙ (then_passes b c two ∙ three)
-
--- and back
-pub then-parts : {F : Type 0} (a b : Check F) → (a >> b) ≡ Ok tt → (a ≡ Ok tt) × (b ≡ Ok tt)
-then-parts (Ok p) b passed = (refl, passed)
-then-parts (Err e) b passed = absurd (cc)
-
-pub every-append : {A F : Type 0} (check : A → Check F) (xs ys : List A) → every check (xs ++ ys) ≡ (every check xs >> every check ys)
-every-append check [] ys = refl
-every-append check (x ∷ xs) ys = ap (λ z. check x >> z) (every-append check xs ys) ∙ then_assoc (check x) (every check xs) (every check ys)
-
--- one more element passes, or is the first that fails
-pub every-push : {A F : Type 0} (check : A → Check F) (xs : List A) (x : A) → every check xs ≡ Ok tt → check x ≡ Ok tt
-    → every check (xs ++ x ∷ []) ≡ Ok tt
-every-push check xs x front here =
-    every-append check xs (x ∷ []) ∙ (then_passes (every check xs) (check x >> Ok tt) front ∙ then_passes (check x) (Ok tt) here)
-
-pub every-stop : {A F : Type 0} (check : A → Check F) (xs : List A) (x : A) (ys : List A) (e : F) → every check xs ≡ Ok tt
-    → check x ≡ Err e → every check (xs ++ x ∷ ys) ≡ Err e
-every-stop check xs x ys e front here =
-    every-append check xs (x ∷ ys)
-    ∙ (then_passes (every check xs) (check x >> every check ys) front ∙ then_fails (check x) (every check ys) e here)
-
--- lists by their first elements
-pub every-take_next : {A F : Type 0} (check : A → Check F) (xs : List A) (i : ℕ) (x : A) → x ≡ get_or xs i x → i < length xs
-    → every check (take i xs) ≡ Ok tt → check x ≡ Ok tt → every check (take (i + 1) xs) ≡ Ok tt
-every-take_next check xs i x is lt front here =
-    let next : take (i + 1) xs ≡ take i xs ++ x ∷ [] = rw add-one (take-suc xs i x lt ∙ ap (λ y. take i xs ++ y ∷ []) (sym is)) in
-    ap (every check) next ∙ every-push check (take i xs) x front here
-
-pub every-take_stops : {A F : Type 0} (check : A → Check F) (xs : List A) (i : ℕ) (x : A) (e : F) → x ≡ get_or xs i x → i < length xs
-    → every check (take i xs) ≡ Ok tt → check x ≡ Err e → every check xs ≡ Err e
-every-take_stops check xs i x e is lt front here =
-    let parted : xs ≡ take i xs ++ x ∷ drop (suc i) xs =
-    sym (take-append-drop i xs) ∙ ap (λ ys. take i xs ++ ys) (drop-cons xs i x lt ∙ ap (λ y. y ∷ drop (suc i) xs) (sym is)) in
-    ap (every check) parted ∙ every-stop check (take i xs) x (drop (suc i) xs) e front here
 
 -- numbers in a row
 range-append : (a m n : ℕ) → range_with_len a (m + n) ≡ range_with_len a m ++ range_with_len (a + m) n
@@ -141,7 +95,7 @@ pub every_range-each : {F : Type 0} (check : ℕ → Check F) (a n : ℕ) → ev
     → (k : ℕ) → a ≤ k → k < a + n → check k ≡ Ok tt
 every_range-each check a zero passed k from to = absurd (omega arith)
 every_range-each check a (suc n) passed k from to =
-    let parts = then-parts (check a) (every check (range_with_len (a + 1) n)) passed in
+    let parts = then-parts (check a) (every check (range_with_len (a + 1) n)) tt passed in
     elim (cases_eq k a) [
       | inl e ↦ rw e parts.0
       | inr other ↦ every_range-each check (a + 1) n parts.1 k (omega arith) (omega arith)
@@ -167,7 +121,7 @@ every_filter-each check p a zero passed k from to holds = absurd (omega arith)
 every_filter-each check p a (suc n) passed k from to holds =
     elim (cases_Bool (p a)) [
       | inl held ↦
-          let parts = then-parts (check a) (every check (filter p (range_with_len (a + 1) n)))
+          let parts = then-parts (check a) (every check (filter p (range_with_len (a + 1) n))) tt
           (ap (every check) (sym (filter-yes p a (range_with_len (a + 1) n) held)) ∙ passed) in
           elim (cases_eq k a) [
             | inl e ↦ rw e parts.0

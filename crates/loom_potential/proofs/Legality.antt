@@ -18,13 +18,14 @@ use Rattle.loom_topology.proofs.LowerBound.{legal_is_below_every_tree}
 use Rattle.loom_potential.specs.declared.first_break.FirstBreak.{FirstBreak}
 use Rattle.loom_potential.specs.declared.first_break.Part.{Part}
 use Rattle.loom_potential.specs.declared.first_break.Part.TheVariants.{Leaf, Over, Split}
-use Rattle.loom_potential.specs.First.{Check, ◌>>◌}
+use Rattle.loom_base.specs.First.{Check, ◌>>◌}
 use Rattle.loom_potential.specs.FirstBreak.{at_most, first_bit, is_one_at, leaf_check, over_check, split_check, is_first_part, first_parts, over_checks, split_checks, cell_check, mask_check, first_break}
 use Rattle.loom_potential.specs.Lowest.{IsBelowEveryTree}
 use Rattle.loom_potential.proofs.Within.{within_bits}
 use Rattle.loom_potential.proofs.FirstParts.{is_part_true, part_is_true}
-use Rattle.loom_potential.proofs.Checks.{all_pass, then-parts, every_range-each, every_range-from_each, every_filter-each, every_filter-from_each}
-use Rattle.loom_potential.proofs.OpenSegments.{open_leads, leads_open, leads_end}
+use Rattle.loom_base.proofs.EachLemmas.{then-parts}
+use Rattle.loom_potential.proofs.Checks.{all_pass, every_range-each, every_range-from_each, every_filter-each, every_filter-from_each}
+use Rattle.loom_topology.proofs.OpenAt.{open_leads, leads_open, leads_to}
 use Rattle.loom_potential.proofs.OneAt.{pow_below}
 
 -- an inequality passes exactly where it holds
@@ -41,6 +42,19 @@ pub at_most-passes : (mask v : ℕ) (part : Part) (left right : Option ℕ) → 
 at_most-passes mask v part left None holds = refl
 at_most-passes mask v part None (Some n) holds = absurd holds
 at_most-passes mask v part (Some m) (Some n) holds = rw (le-leb m n holds) refl
+
+-- where all open segments at a node pass, the inequality over one that leads to another node holds
+pub over_passed-holds : (topology : TopologyView) (P : ℕ → ℕ → Option ℕ) (mask v s u : ℕ) → Leads topology s v u
+    → over_checks topology P mask v ≡ Ok tt → IsAtMost (P mask v) (plus (P mask u) (Some (price_at topology s)))
+unfolding over_checks open_among
+over_passed-holds topology P mask v s u leads passed =
+    let within : s < length topology.segments = open_below topology s leads.0 in
+    let check : over_check topology P mask v s ≡ Ok tt =
+    every_filter-each (over_check topology P mask v) (λ t. is_open_to (segment_at topology t) v) 0 (length topology.segments)
+    passed s (omega arith) (omega arith) (leads_open topology s v u leads) in
+    subst (λ x. IsAtMost (P mask v) (plus (P mask x) (Some (price_at topology s)))) (leads_to topology s v u leads)
+    (at_most-holds mask v (Over (record { 0 = s })) (P mask v)
+    (plus (P mask (other_end (segment_at topology s) v)) (Some (price_at topology s))) check)
 
 -- the first bit of one bit, and of a mask whose first cavity a part holds
 first_bit-pow : (i : ℕ) → 2 ^ i < 2 ^ 32 → first_bit (2 ^ i) ≡ i
@@ -121,9 +135,9 @@ module _ (topology : TopologyView) (terminals : List ℕ) (P : ℕ → ℕ → O
     parts_passed : (mask v : ℕ) → IsMask terminals mask → v < length topology.nodes
         → (leaf_check topology terminals P mask v ≡ Ok tt) × (over_checks topology P mask v ≡ Ok tt) × (split_checks topology P mask v ≡ Ok tt)
     parts_passed mask v range node =
-        let one = then-parts (leaf_check topology terminals P mask v) (over_checks topology P mask v >> split_checks topology P mask v)
+        let one = then-parts (leaf_check topology terminals P mask v) (over_checks topology P mask v >> split_checks topology P mask v) tt
         (cell_passed mask v range node) in
-        let two = then-parts (over_checks topology P mask v) (split_checks topology P mask v) one.1 in
+        let two = then-parts (over_checks topology P mask v) (split_checks topology P mask v) tt one.1 in
         (one.0, two.0, two.1)
 
     leaf_holds : (i : ℕ) → i + 1 < length terminals → IsAtMost (P (2 ^ i) (node_of topology (slice_index terminals (i + 1)))) (Some 0)
@@ -149,15 +163,7 @@ module _ (topology : TopologyView) (terminals : List ℕ) (P : ℕ → ℕ → O
 
     over_holds : (mask v s u : ℕ) → IsMask terminals mask → v < length topology.nodes → Leads topology s v u
         → IsAtMost (P mask v) (plus (P mask u) (Some (price_at topology s)))
-    unfolding over_checks open_among
-    over_holds mask v s u range node leads =
-        let within : s < length topology.segments = open_below topology s leads.0 in
-        let check : over_check topology P mask v s ≡ Ok tt =
-        every_filter-each (over_check topology P mask v) (λ t. is_open_to (segment_at topology t) v) 0 (length topology.segments)
-        (parts_passed mask v range node).1 s (omega arith) (omega arith) (leads_open topology s v u leads) in
-        subst (λ x. IsAtMost (P mask v) (plus (P mask x) (Some (price_at topology s)))) (sym (leads_end topology s v u leads))
-        (at_most-holds mask v (Over (record { 0 = s })) (P mask v)
-        (plus (P mask (other_end (segment_at topology s) v)) (Some (price_at topology s))) check)
+    over_holds mask v s u range node leads = over_passed-holds topology P mask v s u leads (parts_passed mask v range node).1
 
     split_holds : (a b v : ℕ) → 0 < a → 0 < b → bit_and a b ≡ 0 → HoldsFirst a (a + b) → IsMask terminals (a + b)
         → v < length topology.nodes → SplitHolds topology P a b v
@@ -230,6 +236,12 @@ module _ (topology : TopologyView) (terminals : List ℕ) (P : ℕ → ℕ → O
   pub below_every_tree : first_break topology terminals P ≡ Ok tt → IsBelowEveryTree topology terminals P
   below_every_tree passed mask v tree range node is_tree =
       legal_is_below_every_tree topology terminals P mask v tree sound (to_legal passed) range node is_tree
+
+pub unbroken_is_legal : (topology : TopologyView) (terminals : List ℕ) (P : ℕ → ℕ → Option ℕ)
+    → IsSound topology → length terminals ≤ 12 → All (λ c. c < length topology.cavities) terminals
+    → (first_break topology terminals P ≡ Ok tt) ↔ IsLegal topology terminals P
+unbroken_is_legal topology terminals P sound few in_range =
+    (to_legal topology terminals P sound few in_range, from_legal topology terminals P sound few in_range)
 
 -- the same of a list whose cavities clauses see through a function
 module _ {X : Type 0} (topology : TopologyView) (f : X → ℕ) (terminals : List X) (P : ℕ → ℕ → Option ℕ) (sound : IsSound topology)

@@ -1,9 +1,8 @@
 pub mod Within
 pub mod FirstParts
 pub mod Checks
-pub mod OpenSegments
-pub mod Noted
 pub mod Listed
+pub mod WayEnds
 pub mod Sides
 pub mod OneAt
 pub mod Legality

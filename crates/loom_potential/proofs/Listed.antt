@@ -1,76 +1,63 @@
--- How the ways are listed from the prices that are noted.
-use Rattle.std.proofs.Common.{ℕ, List, [], ◌∷◌, ◌++◌, length, slice_index, ◌≡◌, ◌+◌, ◌<◌, ◌≤◌, inl, inr, refl, sym, ap, ◌∙◌, subst, arith}
-use Rattle.std.proofs.lemmas.Bool.{cases_eq}
-use Rattle.std.proofs.lemmas.List.{length-append, get_or_append_left, get_or_push}
-use Rattle.std.proofs.lemmas.List.Elements.{All-get_or}
-use Rattle.loom_topology.specs.Topology.{TopologyView, IsSound, IsSoundSegment, Leads, no_segment, segment_at}
-use Rattle.loom_topology.proofs.Leads.{below-from_Leads}
-use Rattle.loom_potential.specs.declared.ways.Way.{Way}
-use Rattle.loom_potential.specs.Ways.{Joins, CoverOpen, NoteOpen, no_way, way_at}
+-- How the ways over the marked segments are listed.
+use Rattle.std.proofs.Common.{ℕ, List, [], ◌∷◌, ◌++◌, Bool, true, false, length, get_or, map, ◌≡◌, ◌+◌, ◌<◌, refl, sym, ap, ◌∙◌, arith, append-nil}
+use Rattle.std.specs.List.{All, filter, range_with_len}
+use Rattle.std.proofs.lemmas.List.{map-append}
+use Rattle.std.proofs.lemmas.List.Elements.{All-contains, All-filter, All-from_get_or, filter_passes}
+use Rattle.std.proofs.lemmas.List.FromFn.{length-range_with_len, get_or-range_with_len}
+use Rattle.loom_topology.specs.declared.ways.Way.{Way}
+use Rattle.loom_topology.specs.Topology.{TopologyView}
+use Rattle.loom_topology.specs.Ways.{MarksCheapest}
+use Rattle.loom_topology.proofs.Found.{filter-more, marked_rise}
+use Rattle.loom_base.proofs.Contained.{Contains-filter_range}
+use Rattle.loom_topology.proofs.Places.{open_below}
+use Rattle.loom_potential.specs.Ways.{AreWays, way_over}
 
--- some way joins the nodes of segment k, at the price that is noted there
-pub record IsListed (topology : TopologyView) (prices : List ℕ) (ways : List Way) (k : ℕ) : Type 0 where
-  pub place : ℕ
-  pub within : place < length ways
-  pub from : (way_at ways place).from.0 ≡ (segment_at topology k).from
-  pub to : (way_at ways place).to.0 ≡ (segment_at topology k).to
-  pub price : (way_at ways place).price ≡ slice_index prices k
+-- the marked ones of the first n segments
+abbrev marked : List Bool → ℕ → List ℕ
+marked marks n = filter (λ s. get_or marks s false) (range_with_len 0 n)
 
--- one way more
-listed_push : (topology : TopologyView) (prices : List ℕ) (ways : List Way) (way : Way) (k : ℕ) → IsListed topology prices ways k
-    → IsListed topology prices (ways ++ way ∷ []) k
-listed_push topology prices ways way k listed =
-    let same : way_at (ways ++ way ∷ []) listed.place ≡ way_at ways listed.place =
-    get_or_append_left ways (way ∷ []) no_way listed.place listed.within in
-    record {
-      place = listed.place;
-      within = omega (arith, listed.within, length-append ways (way ∷ []));
-      from = ap (λ w. w.from.0) same ∙ listed.from;
-      to = ap (λ w. w.to.0) same ∙ listed.to;
-      price = ap (λ w. w.price) same ∙ listed.price;
-    }
+-- the ways over them
+abbrev pub listed : TopologyView → List Bool → ℕ → List Way
+listed topology marks n = map (way_over topology) (filter (λ s. get_or marks s false) (range_with_len 0 n))
 
-listed_last : (topology : TopologyView) (prices : List ℕ) (ways : List Way) (way : Way) (k : ℕ)
-    → way.from.0 ≡ (segment_at topology k).from → way.to.0 ≡ (segment_at topology k).to → way.price ≡ slice_index prices k
-    → IsListed topology prices (ways ++ way ∷ []) k
-listed_last topology prices ways way k from to price =
-    let same : way_at (ways ++ way ∷ []) (length ways) ≡ way = get_or_push ways way no_way (length ways) refl in
-    record {
-      place = length ways;
-      within = omega (arith, length-append ways (way ∷ []));
-      from = ap (λ w. w.from.0) same ∙ from;
-      to = ap (λ w. w.to.0) same ∙ to;
-      price = ap (λ w. w.price) same ∙ price;
-    }
+pub listed_more : (topology : TopologyView) (marks : List Bool) (n : ℕ) (ways : List Way) (way : Way) → get_or marks n false ≡ true
+    → way ≡ way_over topology n → ways ≡ listed topology marks n → ways ++ way ∷ [] ≡ listed topology marks (n + 1)
+listed_more topology marks n ways way mark is before =
+    let here : filter (λ s. get_or marks s false) (n ∷ []) ≡ n ∷ [] = rw mark refl in
+    ap (λ l. l ++ way ∷ []) before
+    ∙ ap (λ w. listed topology marks n ++ w ∷ []) is
+    ∙ sym (map-append (way_over topology) (marked marks n) (n ∷ []))
+    ∙ ap (λ l. map (way_over topology) (marked marks n ++ l)) (sym here)
+    ∙ ap (map (way_over topology)) (sym (filter-more (λ s. get_or marks s false) n))
 
--- the first n segments are listed where a price is noted
-abbrev pub AreListed : TopologyView → List ℕ → List Way → ℕ → Type 0
-AreListed topology prices ways n = (k : ℕ) → k < n → slice_index prices k ≤ 1000000 → IsListed topology prices ways k
+pub listed_skip : (topology : TopologyView) (marks : List Bool) (n : ℕ) (ways : List Way) → get_or marks n false ≡ false
+    → ways ≡ listed topology marks n → ways ≡ listed topology marks (n + 1)
+listed_skip topology marks n ways unmarked before =
+    let here : filter (λ s. get_or marks s false) (n ∷ []) ≡ [] = rw unmarked refl in
+    before
+    ∙ ap (map (way_over topology)) (sym (append-nil (marked marks n)) ∙ ap (λ l. marked marks n ++ l) (sym here)
+    ∙ sym (filter-more (λ s. get_or marks s false) n))
 
-pub listed_more : (topology : TopologyView) (prices : List ℕ) (ways : List Way) (way : Way) (n : ℕ)
-    → way.from.0 ≡ (segment_at topology n).from → way.to.0 ≡ (segment_at topology n).to → way.price ≡ slice_index prices n
-    → AreListed topology prices ways n → AreListed topology prices (ways ++ way ∷ []) (n + 1)
-listed_more topology prices ways way n from to price listed k below cheap = elim (cases_eq k n) [
-  | inl e ↦ subst (IsListed topology prices (ways ++ way ∷ [])) (sym e) (listed_last topology prices ways way n from to price)
-  | inr other ↦ listed_push topology prices ways way k (listed k (omega arith) cheap)
-]
+range-below : (n : ℕ) → All (λ k. k < n) (range_with_len 0 n)
+range-below n = All-from_get_or (λ k. k < n) (range_with_len 0 n) 0 (λ i below.
+    let within : i < n = omega (arith, length-range_with_len 0 n) in
+    omega (arith, get_or-range_with_len 0 n i 0 within))
 
--- a segment at which no price is noted
-pub listed_skip : (topology : TopologyView) (prices : List ℕ) (ways : List Way) (n : ℕ) → 1000000 < slice_index prices n
-    → AreListed topology prices ways n → AreListed topology prices ways (n + 1)
-listed_skip topology prices ways n dear listed k below cheap = elim (cases_eq k n) [
-  | inl e ↦ absurd (omega (arith, dear, cheap, ap (slice_index prices) e))
-  | inr other ↦ listed k (omega arith) cheap
-]
-
--- all segments
-pub listed_cover : (topology : TopologyView) (prices : List ℕ) (ways : List Way) (n : ℕ) → IsSound topology
-    → length topology.segments ≤ n → NoteOpen topology prices → AreListed topology prices ways n → CoverOpen topology ways
-listed_cover topology prices ways n sound past noted listed s is_open =
-    let leads : Leads topology s (segment_at topology s).from (segment_at topology s).to = (is_open, inl (refl, refl)) in
-    let inside = below-from_Leads topology s (segment_at topology s).from (segment_at topology s).to leads in
-    let cheap = (All-get_or (IsSoundSegment (length topology.nodes)) topology.segments s no_segment inside sound.segments).price_to in
-    let (k, within, joins, price) = noted s is_open in
-    let way = listed k (omega arith) (omega (arith, price, cheap)) in
-    let from_is = subst (λ v. Joins (segment_at topology s) v (segment_at topology k).to) (sym way.from) joins in
-    (way.place, way.within, subst (Joins (segment_at topology s) (way_at ways way.place).from.0) (sym way.to) from_is, omega (arith, way.price, price))
+pub listed_ways : (topology : TopologyView) (marks : List Bool) (n : ℕ) (ways : List Way) → n ≡ length topology.segments
+    → MarksCheapest topology marks → ways ≡ listed topology marks n → AreWays topology ways
+listed_ways topology marks n ways all marks_cheapest is = record {
+  segments = marked marks n;
+  rising = marked_rise (λ s. get_or marks s false) n;
+  cheapest = λ s. (
+    λ there.
+        let below : s < n =
+        All-contains (λ k. k < n) (marked marks n) s (All-filter (λ k. get_or marks k false) (λ k. k < n) (range_with_len 0 n) (range-below n)) there in
+        (marks_cheapest s (omega (arith, below, all))).0
+        (All-contains (λ k. get_or marks k false ≡ true) (marked marks n) s (filter_passes (λ k. get_or marks k false) (range_with_len 0 n)) there),
+    λ is_cheapest.
+        let below : s < length topology.segments = open_below topology s is_cheapest.is_open in
+        Contains-filter_range (λ k. get_or marks k false) 0 n s (omega arith) (omega (arith, below, all))
+        ((marks_cheapest s below).1 is_cheapest),
+  );
+  listed = is;
+}

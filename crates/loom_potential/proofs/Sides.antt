@@ -6,7 +6,7 @@ use Rattle.loom_topology.specs.WiringTree.{other_end}
 use Rattle.loom_topology.specs.Legal.{plus}
 use Rattle.loom_potential.specs.declared.first_break.FirstBreak.{FirstBreak}
 use Rattle.loom_potential.specs.declared.first_break.Part.TheVariants.{Over}
-use Rattle.loom_potential.specs.First.{Check}
+use Rattle.loom_base.specs.First.{Check}
 use Rattle.loom_potential.specs.FirstBreak.{at_most, over_check}
 
 pub over_is : (topology : TopologyView) (P : ℕ → ℕ → Option ℕ) (mask v : ℕ) (segment : SegmentNo) (left right cell : Option ℕ)

@@ -7,7 +7,7 @@ use Rattle.loom_topology.specs.Legal.{plus}
 use Rattle.loom_potential.specs.declared.first_break.Part.{Part}
 use Rattle.loom_potential.specs.declared.first_break.Part.TheVariants.{Leaf, Over, Split}
 use Rattle.loom_potential.specs.declared.first_break.FirstBreak.{FirstBreak}
-use Rattle.loom_potential.specs.First.{Check, ◌>>◌, every}
+use Rattle.loom_base.specs.First.{Check, ◌>>◌, every}
 
 -- the left side of an inequality is at most the right one; None is greater than every number
 abbrev pub at_most : ℕ → ℕ → Part → Option ℕ → Option ℕ → Check FirstBreak

@@ -1,4 +1,4 @@
-pub mod First
 pub mod FirstBreak
 pub mod Lowest
+pub mod Laws
 pub mod Ways

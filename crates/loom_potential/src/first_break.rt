@@ -10,12 +10,13 @@ pub enum Part {
     Leaf,
     /// A way over an open segment costs its price.
     Over(SegmentNo),
-    /// The mask of a part that holds the first cavity; the part and the rest join for the branch cost of the node.
+    /// The mask of a part that holds the first cavity; the part and the rest join for the branch
+    /// cost of the node.
     Split(u32),
 }
 
-/// An inequality that a table breaks: the cell of a mask at a node is above the inequality's right side. A cell without
-/// a number is above every number.
+/// An inequality that a table breaks: the cell of a mask at a node is above the inequality's right
+/// side. A cell without a number is above every number.
 #[derive(Clone, Copy, Debug, PartialEq, Eq)]
 pub struct FirstBreak {
     pub mask: u32,

@@ -4,31 +4,35 @@ ghost use Rattle.loom_topology.specs.Table.{cell_at};
 ghost use Rattle.loom_topology.specs.Legal.{IsAtMost, IsLegal, plus};
 ghost use Rattle.loom_potential.specs.FirstBreak.{cell_check, first_break, is_first_part, is_one_at, leaf_check, mask_check, over_checks, split_check, split_checks};
 ghost use Rattle.loom_potential.specs.Lowest.{IsBelowEveryTree};
-ghost use Rattle.loom_potential.specs.Ways.{AreInRange, CoverOpen, HoldsOver};
+ghost use Rattle.loom_potential.specs.Ways.{AreWays, HoldsOver};
 
 use crate::first_break::at_most;
 use crate::parts::{first_part, next_part};
-use crate::ways::{Way, find_ways, no_ways};
+use crate::ways::{NO_WAY, find_ways};
 use crate::{FirstBreak, Part};
 use loom_base::{CavityNo, NodeNo};
-use loom_topology::{Table, Topology};
+use loom_topology::{Table, Topology, Way};
 
-/// Ok exactly where the table is legal, and then no cell is above the cost of any wiring tree for it; else the first
-/// inequality that fails: masks rising, then nodes rising, and at each cell first the leaf, then the open segments at
-/// the node rising, then the parts that hold the mask's first cavity and leave a rest, rising.
+/// Ok exactly where the table is legal, and then no cell is above the cost of any wiring tree for
+/// it; else the first inequality that fails: masks rising, then nodes rising, and at each cell
+/// first the leaf, then the open segments at the node rising, then the parts that hold the mask's
+/// first cavity and leave a rest, rising.
 pub fn legal(topology: &Topology, terminals: &[CavityNo], table: &Table) -> Result<(), FirstBreak>
     requires enough { 2 ≤ length terminals.now }
     requires few { length terminals.now ≤ 12 }
     requires in_range { All (λ c. c.0 < length topology.now.cavities) terminals.now }
     requires masks { table.now.masks ≡ 2 ^ (length terminals.now - 1) - 1 }
     requires nodes { table.now.nodes ≡ length topology.now.nodes }
-    ensures first { result ≡ first_break topology.now (map (λ c. c.0) terminals.now) (cell_at table.now) }
-    ensures legal { IsOk result ↔ IsLegal topology.now (map (λ c. c.0) terminals.now) (cell_at table.now) }
-    ensures below { OnOk result (IsBelowEveryTree topology.now (map (λ c. c.0) terminals.now) (cell_at table.now)) }
+    ensures first { result
+        ≡ first_break topology.now (map (λ c. c.0) terminals.now) (cell_at table.now) }
+    ensures legal { IsOk result
+        ↔ IsLegal topology.now (map (λ c. c.0) terminals.now) (cell_at table.now) }
+    ensures below { OnOk result (
+        IsBelowEveryTree topology.now (map (λ c. c.0) terminals.now) (cell_at table.now)) }
 {
     let nodes = topology.node_count();
     prove!(nodes == table.nodes());
-    let mut places = no_ways();
+    let mut places = [NO_WAY; 4096];
     let count = find_ways(topology, &mut places);
     let ways = &places[..count];
     for mask in 1..table.masks() + 1 {
@@ -37,8 +41,9 @@ pub fn legal(topology: &Topology, terminals: &[CavityNo], table: &Table) -> Resu
     Ok(())
 }
 
-/// The inequalities of a mask's cells. Whether the ways and the splits hold at all its cells is tested beforehand: the
-/// ways are fewer than the open segments, and for the splits of one part cells stand side by side.
+/// The inequalities of a mask's cells. Whether the ways and the splits hold at all its cells is
+/// tested beforehand: the ways are fewer than the open segments, and for the splits of one part
+/// cells stand side by side.
 fn test_mask(
     topology: &Topology,
     terminals: &[CavityNo],
@@ -46,15 +51,16 @@ fn test_mask(
     table: &Table,
     mask: u32,
 ) -> Result<(), FirstBreak>
+    requires sound { IsSound topology.now }
     requires few { length terminals.now ≤ 12 }
     requires in_range { All (λ c. c.0 < length topology.now.cavities) terminals.now }
-    requires cover { CoverOpen topology.now ways.now }
-    requires ways_in_range { AreInRange (length topology.now.nodes) ways.now }
+    requires ways { AreWays topology.now ways.now }
     requires masks { table.now.masks ≡ 2 ^ (length terminals.now - 1) - 1 }
     requires nodes { table.now.nodes ≡ length topology.now.nodes }
     requires mask_from { 1 ≤ mask }
     requires mask_to { mask ≤ table.now.masks }
-    ensures { result ≡ mask_check topology.now (map (λ c. c.0) terminals.now) (cell_at table.now) mask }
+    ensures { result
+        ≡ mask_check topology.now (map (λ c. c.0) terminals.now) (cell_at table.now) mask }
 {
     let all_over = all_over(topology, ways, table, mask);
     let all_split = all_split(topology, table, mask);
@@ -84,7 +90,8 @@ fn test_leaf(
     requires mask_from { 1 ≤ mask }
     requires mask_to { mask ≤ table.now.masks }
     requires node { node.0 < table.now.nodes }
-    ensures { result ≡ leaf_check topology.now (map (λ c. c.0) terminals.now) (cell_at table.now) mask node.0 }
+    ensures { result
+        ≡ leaf_check topology.now (map (λ c. c.0) terminals.now) (cell_at table.now) mask node.0 }
 {
     if is_one_at(topology, terminals, mask, node) {
         at_most(mask, node, Part::Leaf, table.cell(mask, node), Some(0))
@@ -128,14 +135,15 @@ fn test_segments(
     Ok(())
 }
 
-/// Tells that the inequalities over all open segments hold at all cells of a mask.
+/// Whether the inequalities over all open segments hold at all cells of a mask.
 fn all_over(topology: &Topology, ways: &[Way], table: &Table, mask: u32) -> bool
+    requires sound { IsSound topology.now }
     requires nodes { table.now.nodes ≡ length topology.now.nodes }
-    requires cover { CoverOpen topology.now ways.now }
-    requires ways_in_range { AreInRange (length topology.now.nodes) ways.now }
+    requires ways { AreWays topology.now ways.now }
     requires mask_from { 1 ≤ mask }
     requires mask_to { mask ≤ table.now.masks }
-    ensures { IsTrue result → (v : ℕ) → v < length topology.now.nodes → over_checks topology.now (cell_at table.now) mask v ≡ Ok tt }
+    ensures { IsTrue result ↔ ((v : ℕ) → v < length topology.now.nodes
+        → over_checks topology.now (cell_at table.now) mask v ≡ Ok tt) }
 {
     for way in ways {
         if !holds_over(way, table, mask) {
@@ -196,7 +204,8 @@ fn all_split(topology: &Topology, table: &Table, mask: u32) -> bool
     requires nodes { table.now.nodes ≡ length topology.now.nodes }
     requires mask_from { 1 ≤ mask }
     requires mask_to { mask ≤ table.now.masks }
-    ensures { IsTrue result → (v : ℕ) → v < length topology.now.nodes → split_checks topology.now (cell_at table.now) mask v ≡ Ok tt }
+    ensures { IsTrue result → (v : ℕ) → v < length topology.now.nodes
+        → split_checks topology.now (cell_at table.now) mask v ≡ Ok tt }
 {
     let mut part = first_part(mask);
     while part < mask {
@@ -208,20 +217,21 @@ fn all_split(topology: &Topology, table: &Table, mask: u32) -> bool
     true
 }
 
-/// Tells that the inequality of one part holds at all cells of a mask.
+/// Tells that the inequality of one part holds at all cells of a mask. It doesn't stop at a cell
+/// where it fails, since several cells are looked at together so.
 fn all_split_by(topology: &Topology, table: &Table, mask: u32, part: u32) -> bool
     requires nodes { table.now.nodes ≡ length topology.now.nodes }
     requires mask_to { mask ≤ table.now.masks }
     requires part_from { 1 ≤ part }
     requires part_to { part < mask }
-    ensures { IsTrue result → (v : ℕ) → v < length topology.now.nodes → split_check topology.now (cell_at table.now) mask v part ≡ Ok tt }
+    ensures { IsTrue result → (v : ℕ) → v < length topology.now.nodes
+        → split_check topology.now (cell_at table.now) mask v part ≡ Ok tt }
 {
+    let mut holds = true;
     for node in 0..topology.node_count() {
-        if test_split(topology, table, mask, NodeNo(node), part).is_err() {
-            return false;
-        }
+        holds &= test_split(topology, table, mask, NodeNo(node), part).is_ok();
     }
-    true
+    holds
 }
 
 /// The inequality of one part of a mask and the rest.

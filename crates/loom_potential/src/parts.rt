@@ -18,7 +18,8 @@ pub fn next_part(mask: u32, part: u32) -> u32
     ensures is_part { IsTrue (is_first_part mask result) }
     ensures within { result ≤ mask }
     ensures greater { part < result }
-    ensures least { (later : ℕ) → part < later → IsTrue (is_first_part mask later) → result ≤ later }
+    ensures least { (later : ℕ) → part < later → IsTrue (is_first_part mask later)
+        → result ≤ later }
 {
     let first = 1 << mask.trailing_zeros();
     first + next_within(mask - first, part - first)

@@ -3,7 +3,7 @@ use Rattle.std.specs.List.{range_with_len}
 use Rattle.std.proofs.lemmas.List.{length-map}
 use Rattle.std.proofs.lemmas.Result.{err_from_is_err_and}
 use Rattle.loom_topology.specs.Table.{cell_at}
-use Rattle.loom_potential.specs.First.{every}
+use Rattle.loom_base.specs.First.{every}
 use Rattle.loom_potential.specs.FirstBreak.{mask_check, first_break}
 use Rattle.loom_potential.proofs.Checks.{every-range_next, every-range_stops}
 use Rattle.loom_potential.proofs.Legality.{ok_is_legal, ok_is_below}

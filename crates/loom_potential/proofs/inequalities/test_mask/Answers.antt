@@ -2,9 +2,10 @@ use Rattle.std.proofs.Common.{◌≡◌, Ok, length, map, refl, sym, subst, zero
 use Rattle.std.specs.List.{range_with_len}
 use Rattle.std.proofs.lemmas.Result.{err_from_is_err_and}
 use Rattle.loom_topology.specs.Table.{cell_at}
-use Rattle.loom_potential.specs.First.{every}
+use Rattle.loom_base.specs.First.{every}
 use Rattle.loom_potential.specs.FirstBreak.{leaf_check, over_checks, split_checks, cell_check, mask_check}
-use Rattle.loom_potential.proofs.Checks.{then_fails, all_pass, second_fails, third_fails, every-range_next, every-range_stops}
+use Rattle.loom_base.proofs.EachLemmas.{then_fails}
+use Rattle.loom_potential.proofs.Checks.{all_pass, second_fails, third_fails, every-range_next, every-range_stops}
 use Rattle.loom_potential.proofs.inequalities.test_mask.Goals as goal
 use Rattle.loom_potential.proofs.inequalities.test_mask.Goals.{then-not-all_over+in_ok-test_segments, else-not-all_over, then-not-all_split+in_ok-test_splits, else-not-all_split}
 
@@ -38,7 +39,7 @@ returns-in_err-test_splits c =
     elim c.if-not-all_over.branch [
       | then-not-all_over+in_ok-test_segments w ↦ sym w.in_ok-test_segments.ensures
       | else-not-all_over w ↦
-          w.if-not-all_over.ensures refl c.loop-node.node (omega (arith, c.loop-node-test.true, c.node_count-node-end.ensures.count))
+          w.if-not-all_over.ensures.0 refl c.loop-node.node (omega (arith, c.loop-node-test.true, c.node_count-node-end.ensures.count))
     ] in
     let p = err_from_is_err_and c.from_residual-in_err-test_splits.result c.from_residual-in_err-test_splits.ensures.1 in
     rw (p.1, p.2)
@@ -56,7 +57,7 @@ loop-node-preserved c =
     elim c.if-not-all_over.branch [
       | then-not-all_over+in_ok-test_segments w ↦ sym w.in_ok-test_segments.ensures
       | else-not-all_over w ↦
-          w.if-not-all_over.ensures refl c.loop-node.node (omega (arith, c.loop-node-test.true, c.node_count-node-end.ensures.count))
+          w.if-not-all_over.ensures.0 refl c.loop-node.node (omega (arith, c.loop-node-test.true, c.node_count-node-end.ensures.count))
     ] in
     let splits : split_checks c.args.topology.now (cell_at c.args.table.now) c.args.mask c.loop-node.node ≡ Ok tt =
     elim c.if-not-all_split.branch [

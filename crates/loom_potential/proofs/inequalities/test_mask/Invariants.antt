@@ -1,7 +1,7 @@
 use Rattle.std.proofs.Common.{◌≡◌, Ok, map}
 use Rattle.std.specs.List.{range_with_len}
 use Rattle.loom_topology.specs.Table.{cell_at}
-use Rattle.loom_potential.specs.First.{every}
+use Rattle.loom_base.specs.First.{every}
 use Rattle.loom_potential.specs.FirstBreak.{cell_check}
 use Rattle.loom_potential.proofs.inequalities.test_mask.Given as goal
 

@@ -1,7 +1,7 @@
 use Rattle.std.proofs.Common.{◌≡◌, Ok, take}
 use Rattle.loom_topology.specs.Topology.{open_at}
 use Rattle.loom_topology.specs.Table.{cell_at}
-use Rattle.loom_potential.specs.First.{every}
+use Rattle.loom_base.specs.First.{every}
 use Rattle.loom_potential.specs.FirstBreak.{over_check}
 use Rattle.loom_potential.proofs.inequalities.test_segments.Given as goal
 
