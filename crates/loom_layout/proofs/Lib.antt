@@ -1,0 +1,14 @@
+pub mod HungCavities
+pub mod Primitives
+pub mod Apart
+pub mod Choosing
+pub mod Steps
+pub mod OneCavity
+pub mod Splitting
+pub mod Left
+pub mod Laying
+pub mod Sets
+pub mod Exists
+pub mod Grown
+pub mod Unique
+pub mod Nodes

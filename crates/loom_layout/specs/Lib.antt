@@ -1,0 +1,5 @@
+pub mod Layout
+pub mod Stop
+pub mod Laws
+pub mod Rule
+pub mod Walk
