@@ -9,9 +9,9 @@ use Rattle.loom_formula.specs.declared.formula.Formula.TheOpen.{Formula-F}
 use Rattle.loom_formula.specs.declared.formula.Formula.TheFolds.{fold-Members, fold-roll-Formula, fold_out-Members}
 use Rattle.loom_formula.specs.declared.formula.Members.{Members}
 use Rattle.loom_formula.specs.Formula.{members_of}
-use Rattle.loom_project.specs.First.{Check, every}
+use Rattle.loom_base.specs.First.{Check, every}
 use Rattle.loom_project.specs.Draft.{names_step, option_names}
-use Rattle.loom_project.proofs.EachLemmas.{take_next, parted, every-append}
+use Rattle.loom_base.proofs.EachLemmas.{take_next, parted, every-append}
 
 flat_map-map : {X Y : Type 0} (f : X → List Y) (xs : List X) → flat_map (λ m. m) (map f xs) ≡ flat_map f xs
 flat_map-map f [] = refl

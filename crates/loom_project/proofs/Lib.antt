@@ -1,9 +1,10 @@
 pub mod BarredLemmas
-pub mod EachLemmas
+pub mod ClassLemmas
 pub mod FormulaLemmas
 pub mod NameLemmas
 pub mod NetLemmas
 pub mod PartsLemmas
 pub mod SegmentLemmas
 pub mod SoundLemmas
+pub mod SoundTopologies
 pub mod TopologyLemmas

@@ -7,9 +7,9 @@ use Rattle.std.proofs.lemmas.List.Folds.{list_any-append}
 use Rattle.std.proofs.lemmas.List.Sums.{fold-append}
 use Rattle.std.proofs.lemmas.List.{length-map, length-take}
 use Rattle.loom_formula.specs.NameIndex.{has_name, with_name}
-use Rattle.loom_project.proofs.EachLemmas.{map_next}
+use Rattle.loom_base.proofs.EachLemmas.{map_next}
 use Rattle.loom_project.specs.declared.draft.NodeDraft.{NodeDraft}
-use Rattle.loom_project.specs.Draft.{place_of, each_once, harness_labels}
+use Rattle.loom_project.specs.Draft.{index_of, each_once, harness_labels}
 use Rattle.loom_project.specs.Project.{placed_node, placed_nodes}
 
 same_name : (name : List ℕ) → bytes_eq name name ≡ true
@@ -66,9 +66,9 @@ position_kept p (x ∷ xs) ys h =
     elim (p x) as (λ b. (b || list_any p xs) ≡ true → (if not b then 1 + position_or_len p (xs ++ ys) else 0) ≡ (if not b then 1 + position_or_len p xs else 0))
     [ true ↦ λ _. refl | false ↦ λ g. ap (λ n. 1 + n) (position_kept p xs ys g) ] h
 
-place_kept : (names : List (List ℕ)) (other name : List ℕ) → has_name names name ≡ true → place_of (with_name names other) name ≡ place_of names name
+place_kept : (names : List (List ℕ)) (other name : List ℕ) → has_name names name ≡ true → index_of (with_name names other) name ≡ index_of names name
 place_kept names other name h =
-    elim (has_name names other) as (λ b. place_of (if b then names else names ++ other ∷ []) name ≡ place_of names name)
+    elim (has_name names other) as (λ b. index_of (if b then names else names ++ other ∷ []) name ≡ index_of names name)
     [ true ↦ refl | false ↦ position_kept (bytes_eq name) names (other ∷ []) h ]
 
 split_and : (a b : Bool) → (a && b) ≡ true → (a ≡ true) × (b ≡ true)

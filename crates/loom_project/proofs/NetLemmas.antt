@@ -18,11 +18,11 @@ use Rattle.loom_project.specs.declared.draft.TerminalDraft.{TerminalDraft}
 use Rattle.loom_project.specs.declared.fault.Of.TheVariants as of
 use Rattle.loom_project.specs.declared.fault.ProjectFault.{ProjectFault}
 use Rattle.loom_project.specs.declared.fault.ProjectFault.TheVariants.{TooFewTerminals, TerminalRepeated, UnknownName}
-use Rattle.loom_project.specs.First.{Check, ◌>>◌, require, each, each_after}
-use Rattle.loom_project.specs.Draft.{place_of, cavity_names, rule_nodes, terminal_nodes, net_nodes, net_names}
+use Rattle.loom_base.specs.First.{Check, ◌>>◌, require, each, each_after}
+use Rattle.loom_project.specs.Draft.{index_of, cavity_names, rule_nodes, terminal_nodes, net_nodes, net_names}
 use Rattle.loom_project.specs.Project.{terminal_places, net_at, no_net}
 use Rattle.loom_project.specs.Sound.{at_most, known, not_repeated, draft_check, nets_check, net_check, terminals_check, terminal_check}
-use Rattle.loom_project.proofs.EachLemmas.{each_after-append, parted}
+use Rattle.loom_base.proofs.EachLemmas.{each_after-append, parted}
 use Rattle.loom_project.proofs.SoundLemmas.{passes_both, required, few, passes}
 
 -- where a list passes, each element passes with those before it
@@ -39,9 +39,9 @@ place_below p (x ∷ xs) h =
     [ true ↦ λ _. omega arith | false ↦ λ g. omega (arith, place_below p xs g) ] h
 
 -- a name that is there stands at its place
-name_at : (names : List (List ℕ)) (name : List ℕ) → has_name names name ≡ true → name ≡ get_or names (place_of names name) []
+name_at : (names : List (List ℕ)) (name : List ℕ) → has_name names name ≡ true → name ≡ get_or names (index_of names name) []
 name_at names name there =
-    (bytes_eq-Decides name (get_or names (place_of names name) [])).0 (passes_at_first (bytes_eq name) names [] (place_below (bytes_eq name) names there))
+    (bytes_eq-Decides name (get_or names (index_of names name) [])).0 (passes_at_first (bytes_eq name) names [] (place_below (bytes_eq name) names there))
 
 -- the terminals of a net, each with a cavity of the draft that no earlier one names
 pub record AreSound (cavities : List (List ℕ)) (terminals : List TerminalDraft) : Type 0 where
@@ -97,12 +97,12 @@ net_sound draft n sound lt =
 abbrev no_terminal : TerminalDraft
 no_terminal = record { cavity = []; when = Always }
 
-place_at : (names : List (List ℕ)) (terminals : List TerminalDraft) (k d : ℕ) → k < length terminals → get_or (terminal_places names terminals) k d ≡ place_of names (get_or terminals k no_terminal).cavity
-place_at names terminals k d lt = get_or-map (λ terminal. place_of names terminal.cavity) terminals k no_terminal d lt
+place_at : (names : List (List ℕ)) (terminals : List TerminalDraft) (k d : ℕ) → k < length terminals → get_or (terminal_places names terminals) k d ≡ index_of names (get_or terminals k no_terminal).cavity
+place_at names terminals k d lt = get_or-map (λ terminal. index_of names terminal.cavity) terminals k no_terminal d lt
 
 count_found : (names : List (List ℕ)) (terminals : List TerminalDraft) (found : List CavityNo) → map (λ c. c.0) found ≡ terminal_places names terminals → length found ≡ length terminals
 count_found names terminals found same =
-    sym (length-map found (λ c. c.0)) ∙ ap length same ∙ length-map terminals (λ terminal. place_of names terminal.cavity)
+    sym (length-map found (λ c. c.0)) ∙ ap length same ∙ length-map terminals (λ terminal. index_of names terminal.cavity)
 
 -- the cavities of sound terminals are 2 to 12, all of them in range
 pub at_least_two : (names : List (List ℕ)) (terminals : List TerminalDraft) (found : List CavityNo) → AreSound names terminals → map (λ c. c.0) found ≡ terminal_places names terminals → 2 ≤ length found
@@ -114,12 +114,19 @@ at_most_twelve names terminals found sound same = rw (count_found names terminal
 pub all_in_range : (names : List (List ℕ)) (terminals : List TerminalDraft) (found : List CavityNo) (n : ℕ) → AreSound names terminals → map (λ c. c.0) found ≡ terminal_places names terminals → length names ≡ n → All (λ c. c.0 < n) found
 all_in_range names terminals found n sound same count = λ k d lt.
     let within : k < length terminals = omega (arith, count_found names terminals found same, lt) in
-    let value : (get_or found k d).0 ≡ place_of names (get_or terminals k no_terminal).cavity =
+    let value : (get_or found k d).0 ≡ index_of names (get_or terminals k no_terminal).cavity =
     sym (get_or-map (λ c. c.0) found k d d.0 lt) ∙ ap (λ ps. get_or ps k d.0) same ∙ place_at names terminals k d.0 within in
     rw (value, ← count) (place_below (bytes_eq (get_or terminals k no_terminal).cavity) names (sound.there k no_terminal within))
 
+-- the same by the places themselves
+pub places_in_range : (names : List (List ℕ)) (terminals : List TerminalDraft) → AreSound names terminals → All (λ p. p < length names) (terminal_places names terminals)
+places_in_range names terminals sound k d lt =
+    let within : k < length terminals = omega (arith, length-map terminals (λ terminal. index_of names terminal.cavity), lt) in
+    rw (place_at names terminals k d within)
+    (place_below (bytes_eq (get_or terminals k no_terminal).cavity) names (sound.there k no_terminal within))
+
 -- two names that stand at one place are equal
-pub same_place : (names : List (List ℕ)) (a b : List ℕ) → has_name names a ≡ true → has_name names b ≡ true → place_of names a ≡ place_of names b → bytes_eq b a ≡ true
+pub same_place : (names : List (List ℕ)) (a b : List ℕ) → has_name names a ≡ true → has_name names b ≡ true → index_of names a ≡ index_of names b → bytes_eq b a ≡ true
 same_place names a b here there same =
     let equal : b ≡ a = name_at names b there ∙ ap (λ p. get_or names p []) (sym same) ∙ sym (name_at names a here) in
     rw equal (nat_list_eq_equiv.refl a)
@@ -127,11 +134,11 @@ same_place names a b here there same =
 -- no two terminals of a sound net have the same cavity
 pub all_different : (names : List (List ℕ)) (terminals : List TerminalDraft) → AreSound names terminals → AllPairs (λ a b. a ≢ b) (terminal_places names terminals)
 all_different names terminals sound = λ i j d before lt same.
-    let jn : j < length terminals = omega (arith, length-map terminals (λ terminal. place_of names terminal.cavity), lt) in
+    let jn : j < length terminals = omega (arith, length-map terminals (λ terminal. index_of names terminal.cavity), lt) in
     let in' : i < length terminals = omega (arith, before, jn) in
     let one : TerminalDraft = get_or terminals i no_terminal in
     let other : TerminalDraft = get_or terminals j no_terminal in
-    let places : place_of names one.cavity ≡ place_of names other.cavity =
+    let places : index_of names one.cavity ≡ index_of names other.cavity =
     sym (place_at names terminals i d in') ∙ same ∙ place_at names terminals j d jn in
     let test : TerminalDraft → Bool = λ earlier. bytes_eq other.cavity earlier.cavity in
     let hit : test (get_or (take j terminals) i no_terminal) ≡ true =

@@ -15,8 +15,8 @@ use Rattle.loom_project.specs.declared.draft.NodeDraft.{NodeDraft}
 use Rattle.loom_project.specs.declared.draft.SegmentDraft.{SegmentDraft}
 use Rattle.loom_project.specs.declared.fault.Of.TheVariants as of
 use Rattle.loom_project.specs.declared.fault.ProjectFault.TheVariants.{UnknownName, EndsEqual, BorderCrossed, NoBorder}
-use Rattle.loom_project.specs.First.{require}
-use Rattle.loom_project.specs.Draft.{place_of, each_once, node_names, harness_labels}
+use Rattle.loom_base.specs.First.{require}
+use Rattle.loom_project.specs.Draft.{index_of, each_once, node_names, harness_labels}
 use Rattle.loom_project.specs.Project.{placed_node, placed_nodes}
 use Rattle.loom_project.specs.Sound.{not_repeated, at_most, known, border_check, ends_check, segment_check}
 use Rattle.loom_project.proofs.NameLemmas.{all_there}
@@ -24,12 +24,12 @@ use Rattle.loom_project.proofs.NetLemmas.{same_place, place_below, not_true}
 use Rattle.loom_project.proofs.SoundLemmas.{passes_both, required}
 
 -- two names are equal exactly where they stand at one place
-same_places : (names : List (List ℕ)) (a b : List ℕ) → has_name names a ≡ true → has_name names b ≡ true → (place_of names a == place_of names b) ≡ bytes_eq a b
+same_places : (names : List (List ℕ)) (a b : List ℕ) → has_name names a ≡ true → has_name names b ≡ true → (index_of names a == index_of names b) ≡ bytes_eq a b
 same_places names a b here there =
-    let Same : Bool → Type 0 = λ v. bytes_eq a b ≡ v → (place_of names a == place_of names b) ≡ v in
+    let Same : Bool → Type 0 = λ v. bytes_eq a b ≡ v → (index_of names a == index_of names b) ≡ v in
     elim (bytes_eq a b) as Same [
-      | true ↦ λ e. let equal : a ≡ b = (bytes_eq-Decides a b).0 e in let places : place_of names a ≡ place_of names b = ap (place_of names) equal in grind (arith, nat_tests)
-      | false ↦ λ e. let apart : place_of names a ≡ place_of names b → ⊥ = λ p. absurd (cc (e, same_place names b a there here (sym p))) in grind (arith, nat_tests)
+      | true ↦ λ e. let equal : a ≡ b = (bytes_eq-Decides a b).0 e in let places : index_of names a ≡ index_of names b = ap (index_of names) equal in grind (arith, nat_tests)
+      | false ↦ λ e. let apart : index_of names a ≡ index_of names b → ⊥ = λ p. absurd (cc (e, same_place names b a there here (sym p))) in grind (arith, nat_tests)
     ] refl
 
 all_at : {X : Type 0} (p : X → Bool) (xs : List X) (i : ℕ) (d : X) → i < length xs → list_all p xs ≡ true → p (get_or xs i d) ≡ true
@@ -45,12 +45,12 @@ module _ (nodes : List NodeDraft) (topology : TopologyView) (placed : topology.n
   harnesses = each_once (harness_labels nodes)
 
   -- the number of a node's harness is the place of its label
-  number_at : (v : ℕ) → v < length nodes → harness_at topology v ≡ place_of harnesses (get_or (harness_labels nodes) v [])
+  number_at : (v : ℕ) → v < length nodes → harness_at topology v ≡ index_of harnesses (get_or (harness_labels nodes) v [])
   number_at v lt =
       let label : get_or (harness_labels nodes) v [] ≡ (get_or nodes v no_draft).harness = get_or-map (λ node. node.harness) nodes v no_draft [] lt in
       ap (λ (ns : List Node). (get_or ns v no_node).harness) placed
       ∙ ap (λ (n : Node). n.harness) (get_or-map (placed_node harnesses) nodes v no_draft no_node lt)
-      ∙ ap (place_of harnesses) (sym label)
+      ∙ ap (index_of harnesses) (sym label)
 
   -- two nodes lie in one harness exactly where they have one label
   one_harness : (v u : ℕ) → v < length nodes → u < length nodes → (harness_at topology v == harness_at topology u) ≡ bytes_eq (get_or (harness_labels nodes) v []) (get_or (harness_labels nodes) u [])
@@ -67,7 +67,7 @@ module _ (nodes : List NodeDraft) (topology : TopologyView) (placed : topology.n
       let outside : is_inside ≡ false = not_true is_inside (required (not is_inside) (NoBorder name) passes) in rw (same, outside) refl
 
   -- a segment with sound ends can be added
-  ends_fit : (segment : SegmentDraft) → ends_check nodes segment ≡ Ok tt → number_of_new topology (place_of (node_names nodes) segment.from) (place_of (node_names nodes) segment.to) segment.kind ≡ Ok (length topology.segments)
+  ends_fit : (segment : SegmentDraft) → ends_check nodes segment ≡ Ok tt → number_of_new topology (index_of (node_names nodes) segment.from) (index_of (node_names nodes) segment.to) segment.kind ≡ Ok (length topology.segments)
   unfolding ends_check
   ends_fit segment h =
       let names = node_names nodes in
@@ -77,14 +77,14 @@ module _ (nodes : List NodeDraft) (topology : TopologyView) (placed : topology.n
       let from : has_name names segment.from ≡ true = required (has_name names segment.from) (UnknownName of.Node segment.from) a.0 in
       let to : has_name names segment.to ≡ true = required (has_name names segment.to) (UnknownName of.Node segment.to) b.0 in
       let apart : bytes_eq segment.from segment.to ≡ false = not_true (bytes_eq segment.from segment.to) (required (not (bytes_eq segment.from segment.to)) (EndsEqual segment.name) c.0) in
-      let differ : (place_of names segment.from == place_of names segment.to) ≡ false = same_places names segment.from segment.to from to ∙ apart in
-      let within : (name : List ℕ) → has_name names name ≡ true → place_of names name < length nodes =
+      let differ : (index_of names segment.from == index_of names segment.to) ≡ false = same_places names segment.from segment.to from to ∙ apart in
+      let within : (name : List ℕ) → has_name names name ≡ true → index_of names name < length nodes =
       λ name there. rw (← length-map nodes (λ (node : NodeDraft). node.name)) (place_below (bytes_eq name) names there) in
       rw differ (keeps_border segment.kind segment.name (length topology.segments) _ _ _
-      (one_harness (place_of names segment.from) (place_of names segment.to) (within segment.from from) (within segment.to to)) c.1)
+      (one_harness (index_of names segment.from) (index_of names segment.to) (within segment.from from) (within segment.to to)) c.1)
 
   -- a segment that passes its checks can be added
-  pub segment_fits : (taken : List (List ℕ)) (segment : SegmentDraft) → segment_check nodes taken segment ≡ Ok tt → number_of_new topology (place_of (node_names nodes) segment.from) (place_of (node_names nodes) segment.to) segment.kind ≡ Ok (length topology.segments)
+  pub segment_fits : (taken : List (List ℕ)) (segment : SegmentDraft) → segment_check nodes taken segment ≡ Ok tt → number_of_new topology (index_of (node_names nodes) segment.from) (index_of (node_names nodes) segment.to) segment.kind ≡ Ok (length topology.segments)
   unfolding segment_check
   segment_fits taken segment h =
       let a = passes_both (not_repeated of.Segment taken segment.name) _ h in

@@ -5,8 +5,10 @@ use Rattle.std.specs.Prelude.{nat_le}
 use Rattle.loom_base.specs.declared.limits.Which.{Which}
 use Rattle.loom_base.specs.declared.limits.Which.TheVariants as limits
 use Rattle.loom_project.specs.declared.draft.Draft.{Draft}
+use Rattle.loom_project.specs.declared.fault.ProjectFault.{ProjectFault}
 use Rattle.loom_project.specs.declared.fault.ProjectFault.TheVariants.{Limit}
-use Rattle.loom_project.specs.First.{Check, ◌>>◌, require}
+use Rattle.loom_base.specs.First.{Check, ◌>>◌, require}
+use Rattle.loom_project.specs.Project.{IsWithinLimits}
 use Rattle.loom_project.specs.Draft.{node_names, cavity_names, rule_nodes}
 use Rattle.loom_project.specs.Sound.{at_most, options_check, rules_check, nodes_check, segments_check, cavities_check, nets_check, draft_check}
 
@@ -40,10 +42,25 @@ passes draft h =
     let e = passes_both (cavities_check (node_names draft.nodes) draft.cavities) _ d.1 in
     record { options = a.0; rules = b.0; nodes = c.0; segments = d.0; cavities = e.0; nets = e.1 }
 
+-- a list that passes is within its limit
+limited : (which : Which) (limit count : ℕ) (rest : Check ProjectFault) → (at_most which limit count >> rest) ≡ Ok tt → count ≤ limit
+limited which limit count rest h = few which limit count (passes_both (at_most which limit count) rest h).0
+
+pub within_limits : (draft : Draft) → draft_check draft ≡ Ok tt → IsWithinLimits draft
+unfolding options_check rules_check nodes_check segments_check cavities_check nets_check
+within_limits draft h =
+    let all = passes draft h in
+    record {
+      few_options = limited limits.Options 512 (length draft.options) _ all.options;
+      few_rules = limited limits.Rules 1024 (length draft.rules) _ all.rules;
+      few_nodes = limited limits.Nodes 1024 (length draft.nodes) _ all.nodes;
+      few_segments = limited limits.Segments 4096 (length draft.segments) _ all.segments;
+      few_cavities = limited limits.Cavities 8192 (length draft.cavities) _ all.cavities;
+      few_nets = limited limits.Nets 2048 (length draft.nets) _ all.nets;
+    }
+
 pub few_nets : (draft : Draft) → draft_check draft ≡ Ok tt → length draft.nets ≤ 2048
-unfolding nets_check
-few_nets draft h = few limits.Nets 2048 (length draft.nets) (passes_both (at_most limits.Nets 2048 (length draft.nets)) _ (passes draft h).nets).0
+few_nets draft h = (within_limits draft h).few_nets
 
 pub few_segments : (draft : Draft) → draft_check draft ≡ Ok tt → length draft.segments ≤ 4096
-unfolding segments_check
-few_segments draft h = few limits.Segments 4096 (length draft.segments) (passes_both (at_most limits.Segments 4096 (length draft.segments)) _ (passes draft h).segments).0
+few_segments draft h = (within_limits draft h).few_segments

@@ -13,9 +13,9 @@ use Rattle.loom_project.specs.declared.draft.CavityDraft.{CavityDraft}
 use Rattle.loom_project.specs.declared.draft.NetDraft.{NetDraft}
 use Rattle.loom_project.specs.declared.draft.TerminalDraft.{TerminalDraft}
 
--- the place of a name among names
-abbrev pub place_of : List (List ℕ) → List ℕ → ℕ
-place_of names name = position_or_len (bytes_eq name) names
+-- the index of a name among names, which is their count where it is not there
+abbrev pub index_of : List (List ℕ) → List ℕ → ℕ
+index_of names name = position_or_len (bytes_eq name) names
 
 -- names in order, each at its first place alone
 abbrev pub each_once : List (List ℕ) → List (List ℕ)
@@ -30,7 +30,7 @@ harness_labels nodes = map (λ node. node.harness) nodes
 
 -- the harness of the node of that name
 abbrev pub harness_of : List NodeDraft → List ℕ → List ℕ
-harness_of nodes name = slice_index_or (harness_labels nodes) (place_of (node_names nodes) name) []
+harness_of nodes name = slice_index_or (harness_labels nodes) (index_of (node_names nodes) name) []
 
 abbrev pub segment_names : List SegmentDraft → List (List ℕ)
 segment_names segments = map (λ segment. segment.name) segments

@@ -1,5 +1,5 @@
-pub mod First
 pub mod Draft
 pub mod Sound
 pub mod Project
+pub mod Classes
 pub mod ProjectInside

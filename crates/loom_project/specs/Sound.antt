@@ -17,7 +17,7 @@ use Rattle.loom_project.specs.declared.fault.Of.{Of}
 use Rattle.loom_project.specs.declared.fault.Of.TheVariants as of
 use Rattle.loom_project.specs.declared.fault.ProjectFault.{ProjectFault}
 use Rattle.loom_project.specs.declared.fault.ProjectFault.TheVariants.{UnknownName, RepeatedName, TerminalRepeated, TooFewTerminals, EndsEqual, BorderCrossed, NoBorder, ReservedPin, Limit, NoMemory}
-use Rattle.loom_project.specs.First.{Check, ◌>>◌, require, every, each}
+use Rattle.loom_base.specs.First.{Check, ◌>>◌, require, every, each}
 use Rattle.loom_project.specs.Draft.{node_names, harness_of, segment_names, cavity_names, net_names, pins_of, option_names, rule_nodes, terminal_nodes, net_nodes}
 
 -- there are no more than the limit; a refusal counts the limit and one more
@@ -38,7 +38,8 @@ options_check options =
     at_most limits.Options 512 (length options)
     >> each (not_repeated of.OptionName) options
 
--- a formula is at most 64 deep, names options alone, and has with the nodes counted before it at most 65,536 nodes
+-- a formula is at most 64 deep, names options alone, and has with the nodes counted before it at most
+-- 65,536 nodes
 unfoldable pub formula_check : List (List ℕ) → ℕ → Formula → Check ProjectFault
 formula_check options counted formula =
     at_most limits.FormulaDepth 64 (depth_of formula)
@@ -72,7 +73,8 @@ ends_check nodes segment =
     known of.Node (node_names nodes) segment.from
     >> known of.Node (node_names nodes) segment.to
     >> require (not (bytes_eq segment.from segment.to)) (EndsEqual segment.name)
-    >> border_check segment.kind segment.name (bytes_eq (harness_of nodes segment.from) (harness_of nodes segment.to))
+    >> border_check segment.kind segment.name
+    (bytes_eq (harness_of nodes segment.from) (harness_of nodes segment.to))
 
 -- a reserved pin is one of the coupler's; a run has none
 abbrev pub pin_check : List ℕ → ℕ → ℕ → Check ProjectFault
@@ -105,10 +107,12 @@ cavities_check nodes cavities =
     >> each (λ before cavity. cavity_check nodes (cavity_names before) cavity) cavities
 
 -- a terminal names a cavity, which no earlier terminal of its net names, and has a sound formula
-unfoldable pub terminal_check : List (List ℕ) → List (List ℕ) → ℕ → List ℕ → List TerminalDraft → TerminalDraft → Check ProjectFault
+unfoldable pub terminal_check : List (List ℕ) → List (List ℕ) → ℕ → List ℕ → List TerminalDraft
+    → TerminalDraft → Check ProjectFault
 terminal_check options cavities counted net before terminal =
     known of.Cavity cavities terminal.cavity
-    >> require (not (list_any (λ earlier. bytes_eq terminal.cavity earlier.cavity) before)) (TerminalRepeated net terminal.cavity)
+    >> require (not (list_any (λ earlier. bytes_eq terminal.cavity earlier.cavity) before))
+    (TerminalRepeated net terminal.cavity)
     >> formula_check options counted terminal.when
 
 -- a net has 2 to 12 terminals, each of them sound
@@ -116,19 +120,23 @@ unfoldable pub terminals_check : List (List ℕ) → List (List ℕ) → ℕ →
 terminals_check options cavities counted net =
     at_most limits.Terminals 12 (length net.terminals)
     >> require (nat_le 2 (length net.terminals)) (TooFewTerminals net.name (length net.terminals))
-    >> each (λ before terminal. terminal_check options cavities (counted + terminal_nodes before) net.name before terminal) net.terminals
+    >> each (λ before terminal.
+    terminal_check options cavities (counted + terminal_nodes before) net.name before terminal) net.terminals
 
 -- a net has a name that isn't taken, and sound terminals
-unfoldable pub net_check : List (List ℕ) → List (List ℕ) → ℕ → List (List ℕ) → NetDraft → Check ProjectFault
+unfoldable pub net_check : List (List ℕ) → List (List ℕ) → ℕ → List (List ℕ) → NetDraft
+    → Check ProjectFault
 net_check options cavities counted taken net =
     not_repeated of.Net taken net.name
     >> terminals_check options cavities counted net
 
--- at most 2,048 nets, each of them sound; the nodes of formulas are counted on from those of the rules
+-- at most 2,048 nets, each of them sound; the nodes of formulas are counted on from those of the
+-- rules
 unfoldable pub nets_check : List (List ℕ) → List (List ℕ) → ℕ → List NetDraft → Check ProjectFault
 nets_check options cavities counted nets =
     at_most limits.Nets 2048 (length nets)
-    >> each (λ before net. net_check options cavities (counted + net_nodes before) (net_names before) net) nets
+    >> each (λ before net.
+    net_check options cavities (counted + net_nodes before) (net_names before) net) nets
 
 -- whether a draft is sound, or its first failure in reading order
 unfoldable pub draft_check : Draft → Check ProjectFault

@@ -1,16 +1,14 @@
-ghost use Rattle.std.specs.Prelude.{◌≡◌, ◌<◌, ◌≤◌, ◌++◌, ◌∷◌, All, length, map, filter, slice_index_or, [], IfOk, OnOk, if◌then◌else◌};
-ghost use Rattle.std.specs.List.{range_with_len};
-ghost use Rattle.loom_formula.specs.NameIndex.{has_name};
+ghost use Rattle.std.specs.Prelude.{◌≡◌, ◌<◌, ◌≤◌, ◌==◌, ◌++◌, ◌∷◌, All, length, map, filter, slice_index_or, [], IfOk, OnOk, if◌then◌else◌};
+ghost use Rattle.std.specs.List.{list_any, range_with_len};
 
-use crate::SegmentDraft;
-use loom_base::{List, Name, NoMemory, SegmentNo};
+use loom_base::{List, NoMemory, SegmentNo};
 use std::alloc::Global;
 
-/// Whether the bars of a segment name the class.
-fn bars(segment: &SegmentDraft, class: Name) -> bool
-    ensures { result ≡ has_name segment.now.bars class }
+/// Whether a class is among those that a segment bars.
+pub fn is_among(bars: &[u32], class: u32) -> bool
+    ensures { result ≡ list_any (λ bar. bar == class) bars.now }
 {
-    segment.bars.as_slice().iter().any(|&bar| class == bar)
+    bars.iter().any(|&bar| bar == class)
 }
 
 /// Appends a segment where it is barred.
@@ -27,20 +25,22 @@ fn push_if(
     Ok(())
 }
 
-/// The segments whose bars name the class, rising.
+/// The segments that bar a class, rising, where each segment has the list of the classes that it
+/// bars.
 pub fn barred_segments(
     alloc: Global,
-    segments: &[SegmentDraft],
-    class: Name,
+    bars: &[List<u32>],
+    class: u32,
 ) -> Result<List<SegmentNo>, NoMemory>
-    requires { length segments.now ≤ 4096 }
+    requires { length bars.now ≤ 4096 }
     ensures barred { IfOk result (λ barred. map (λ s. s.0) barred
-        ≡ filter (λ s. has_name (slice_index_or (map (λ segment. segment.bars) segments.now) s []) class) (range_with_len 0 (length segments.now))) }
-    ensures within { IfOk result (All (λ s. s.0 < length segments.now)) }
+        ≡ filter (λ s. list_any (λ bar. bar == class) (slice_index_or bars.now s []))
+        (range_with_len 0 (length bars.now))) }
+    ensures within { IfOk result (All (λ s. s.0 < length bars.now)) }
 {
     let mut barred = List::new(alloc);
-    for (i, segment) in segments.iter().enumerate() {
-        let is_barred = bars(segment, class);
+    for (i, classes) in bars.iter().enumerate() {
+        let is_barred = is_among(classes.as_slice(), class);
         push_if(&mut barred, is_barred, SegmentNo(i as u32))?;
     }
     Ok(barred)

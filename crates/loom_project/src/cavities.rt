@@ -1,5 +1,5 @@
 ghost use Rattle.std.specs.Prelude.{◌≡◌, ◌<◌, ◌++◌, ◌∷◌, [], length, map, IfOk, OnOk};
-ghost use Rattle.loom_project.specs.Draft.{place_of, node_names, cavity_names};
+ghost use Rattle.loom_project.specs.Draft.{index_of, node_names, cavity_names};
 ghost use Rattle.loom_project.specs.Sound.{cavity_check, cavities_check, Gives};
 
 use crate::require::{add_name, at_most, known};
@@ -9,8 +9,9 @@ use loom_formula::NameIndex;
 use loom_topology::Topology;
 use std::alloc::Global;
 
-/// Adds the cavities to a topology of the nodes and gives them by their names, or answers the first failure among them.
-#[tactic(auto, using(crate::proofs::EachLemmas::each_steps), unfolding(crate::specs::Sound::cavities_check))]
+/// Adds the cavities to a topology of the nodes and gives them by their names, or answers the first
+/// failure among them.
+#[tactic(auto, using(loom_base::proofs::EachLemmas::each_steps), unfolding(crate::specs::Sound::cavities_check))]
 pub fn add_cavities(
     alloc: Global,
     topology: &mut Topology,
@@ -21,7 +22,9 @@ pub fn add_cavities(
     requires none { topology.old.cavities ≡ [] }
     ensures gives { Gives result (cavities_check places.now cavities.now) }
     ensures names { IfOk result (λ names. names ≡ cavity_names cavities.now) }
-    ensures added { OnOk result (topology.new ≡ record topology.old { cavities = map (λ cavity. place_of places.now cavity.node) cavities.now }) }
+    ensures added { OnOk result (topology.new ≡ record topology.old {
+      cavities = map (λ cavity. index_of places.now cavity.node) cavities.now;
+    }) }
 {
     at_most(Which::Cavities, MAX_CAVITIES, cavities.len() as u64)?;
     let mut names = NameIndex::new(alloc);
@@ -42,7 +45,7 @@ fn checked_cavity(
     requires { length taken.old < 8192 }
     ensures gives { Gives result (cavity_check places.now taken.old cavity.now) }
     ensures taken { OnOk result (taken.new ≡ taken.old ++ cavity.now.name ∷ []) }
-    ensures node { IfOk result (λ node. node.0 ≡ place_of places.now cavity.now.node) }
+    ensures node { IfOk result (λ node. node.0 ≡ index_of places.now cavity.now.node) }
     ensures within { IfOk result (λ node. node.0 < length places.now) }
 {
     add_name(taken, Of::Cavity, cavity.name)?;

@@ -21,7 +21,7 @@ impl Draft {
     }
 }
 
-#[tactic(auto, using(crate::proofs::EachLemmas::each_steps))]
+#[tactic(auto, using(loom_base::proofs::EachLemmas::each_steps))]
 fn copied_rules(alloc: Global, rules: &[Formula]) -> Result<List<Formula>, NoMemory>
     ensures { IfOk result (λ copies. copies ≡ rules.now) }
 {
@@ -45,7 +45,7 @@ fn copied_segment(alloc: Global, segment: &SegmentDraft) -> Result<SegmentDraft,
     })
 }
 
-#[tactic(auto, using(crate::proofs::EachLemmas::each_steps))]
+#[tactic(auto, using(loom_base::proofs::EachLemmas::each_steps))]
 fn copied_segments(alloc: Global, segments: &[SegmentDraft]) -> Result<List<SegmentDraft>, NoMemory>
     ensures { IfOk result (λ copies. copies ≡ segments.now) }
 {
@@ -56,7 +56,7 @@ fn copied_segments(alloc: Global, segments: &[SegmentDraft]) -> Result<List<Segm
     Ok(copies)
 }
 
-#[tactic(auto, using(crate::proofs::EachLemmas::each_steps))]
+#[tactic(auto, using(loom_base::proofs::EachLemmas::each_steps))]
 fn copied_terminals(
     alloc: Global,
     terminals: &[TerminalDraft],
@@ -72,7 +72,7 @@ fn copied_terminals(
     Ok(copies)
 }
 
-#[tactic(auto, using(crate::proofs::EachLemmas::each_steps))]
+#[tactic(auto, using(loom_base::proofs::EachLemmas::each_steps))]
 fn copied_nets(alloc: Global, nets: &[NetDraft]) -> Result<List<NetDraft>, NoMemory>
     ensures { IfOk result (λ copies. copies ≡ nets.now) }
 {

@@ -11,7 +11,8 @@ pub enum Of {
     Terminal,
 }
 
-/// Why a draft isn't sound: its first failure in the order of options, rules, nodes, segments, cavities and nets.
+/// Why a draft isn't sound: its first failure in the order of options, rules, nodes, segments,
+/// cavities and nets.
 #[derive(Clone, Copy, Debug, PartialEq, Eq)]
 pub enum ProjectFault {
     /// No such thing has that name.

@@ -3,7 +3,7 @@ ghost use Rattle.std.specs.List.{flat_map};
 ghost use Rattle.loom_formula.specs.Formula.{members_of, nodes_of, depth_of};
 ghost use Rattle.loom_project.specs.declared.fault.Of.TheVariants as of;
 ghost use Rattle.loom_base.specs.declared.limits.Which.TheVariants as limits;
-ghost use Rattle.loom_project.specs.First.{every};
+ghost use Rattle.loom_base.specs.First.{every};
 ghost use Rattle.loom_project.specs.Draft.{option_names, rule_nodes};
 ghost use Rattle.loom_project.specs.Sound.{at_most, known, formula_check, rules_check, Answers};
 
@@ -37,7 +37,8 @@ impl FormulaCount {
 /// The nodes counted with those of one more formula, where they are not too many.
 fn counted(nodes: u64, formula: &Formula) -> Result<u64, ProjectFault>
     requires { nodes ≤ 65536 }
-    ensures answers { Answers result (at_most limits.FormulaNodes 65536 (nodes + nodes_of formula.now)) }
+    ensures answers { Answers result
+        (at_most limits.FormulaNodes 65536 (nodes + nodes_of formula.now)) }
     ensures counted { IfOk result (λ all. all ≡ nodes + nodes_of formula.now) }
     ensures few { IfOk result (λ all. all ≤ 65536) }
 {
@@ -80,7 +81,8 @@ fn check_options(formula: &Formula, options: &Options) -> Result<(), ProjectFaul
 /// Each name in the members of a formula is that of an option.
 #[cycle(options)]
 fn check_members(members: &Members, options: &Options) -> Result<(), ProjectFault>
-    ensures { result ≡ every (known of.OptionName options.now) (flat_map option_names (members_of members.now)) }
+    ensures { result ≡ every (known of.OptionName options.now)
+        (flat_map option_names (members_of members.now)) }
 {
     for member in members.as_slice() {
         check_options(member, options)?;

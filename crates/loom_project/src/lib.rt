@@ -3,6 +3,7 @@
 
 mod barred;
 mod cavities;
+mod classes;
 mod copy;
 mod draft;
 mod fault;

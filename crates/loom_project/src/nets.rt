@@ -1,7 +1,7 @@
 ghost use Rattle.std.specs.Prelude.{◌≡◌, ◌<◌, ◌≤◌, ◌+◌, ◌++◌, ◌∷◌, [], length, map, IfOk, OnOk, bytes_eq};
 ghost use Rattle.std.specs.List.{list_any};
 ghost use Rattle.loom_formula.specs.Formula.{nodes_of};
-ghost use Rattle.loom_project.specs.Draft.{place_of, terminal_nodes, net_nodes, net_names};
+ghost use Rattle.loom_project.specs.Draft.{index_of, terminal_nodes, net_nodes, net_names};
 ghost use Rattle.loom_project.specs.Project.{terminal_places, net_places};
 ghost use Rattle.loom_project.specs.Sound.{terminal_check, terminals_check, net_check, nets_check, Gives, Answers};
 
@@ -23,7 +23,8 @@ pub fn checked_nets(
 ) -> Result<List<List<CavityNo>>, ProjectFault>
     requires { rules.nodes ≤ 65536 }
     ensures gives { Gives result (nets_check options.now cavities.now rules.nodes nets.now) }
-    ensures places { IfOk result (λ found. map (map (λ c. c.0)) found ≡ net_places cavities.now nets.now) }
+    ensures places { IfOk result (λ found. map (map (λ c. c.0)) found
+        ≡ net_places cavities.now nets.now) }
 {
     at_most(Which::Nets, MAX_NETS, nets.len() as u64)?;
     let mut taken = NameIndex::new(alloc);
@@ -47,11 +48,14 @@ fn checked_net(
 ) -> Result<List<CavityNo>, ProjectFault>
     requires room { length taken.old < 2048 }
     requires counted { count.old.nodes ≤ 65536 }
-    ensures gives { Gives result (net_check options.now cavities.now count.old.nodes taken.old net.now) }
+    ensures gives { Gives result
+        (net_check options.now cavities.now count.old.nodes taken.old net.now) }
     ensures taken { OnOk result (taken.new ≡ taken.old ++ net.now.name ∷ []) }
-    ensures counted { OnOk result (count.new.nodes ≡ count.old.nodes + terminal_nodes net.now.terminals) }
+    ensures counted { OnOk result (count.new.nodes
+        ≡ count.old.nodes + terminal_nodes net.now.terminals) }
     ensures few { OnOk result (count.new.nodes ≤ 65536) }
-    ensures places { IfOk result (λ found. map (λ c. c.0) found ≡ terminal_places cavities.now net.now.terminals) }
+    ensures places { IfOk result (λ found. map (λ c. c.0) found
+        ≡ terminal_places cavities.now net.now.terminals) }
 {
     add_name(taken, Of::Net, net.name)?;
     checked_terminals(alloc, options, cavities, count, net)
@@ -67,10 +71,13 @@ fn checked_terminals(
     net: &NetDraft,
 ) -> Result<List<CavityNo>, ProjectFault>
     requires { count.old.nodes ≤ 65536 }
-    ensures gives { Gives result (terminals_check options.now cavities.now count.old.nodes net.now) }
-    ensures counted { OnOk result (count.new.nodes ≡ count.old.nodes + terminal_nodes net.now.terminals) }
+    ensures gives { Gives result
+        (terminals_check options.now cavities.now count.old.nodes net.now) }
+    ensures counted { OnOk result (count.new.nodes
+        ≡ count.old.nodes + terminal_nodes net.now.terminals) }
     ensures few { OnOk result (count.new.nodes ≤ 65536) }
-    ensures places { IfOk result (λ found. map (λ c. c.0) found ≡ terminal_places cavities.now net.now.terminals) }
+    ensures places { IfOk result (λ found. map (λ c. c.0) found
+        ≡ terminal_places cavities.now net.now.terminals) }
 {
     let terminals = net.terminals.as_slice();
     let len = terminals.len() as u64;
@@ -99,10 +106,11 @@ fn checked_terminal(
     terminal: &TerminalDraft,
 ) -> Result<CavityNo, ProjectFault>
     requires { count.old.nodes ≤ 65536 }
-    ensures answers { Answers result (terminal_check options.now cavities.now count.old.nodes net earlier.now terminal.now) }
+    ensures answers { Answers result
+        (terminal_check options.now cavities.now count.old.nodes net earlier.now terminal.now) }
     ensures counted { OnOk result (count.new.nodes ≡ count.old.nodes + nodes_of terminal.now.when) }
     ensures few { OnOk result (count.new.nodes ≤ 65536) }
-    ensures place { IfOk result (λ cavity. cavity.0 ≡ place_of cavities.now terminal.now.cavity) }
+    ensures place { IfOk result (λ cavity. cavity.0 ≡ index_of cavities.now terminal.now.cavity) }
 {
     let cavity = terminal.cavity;
     let place = known(Of::Cavity, cavities, cavity)?;

@@ -3,7 +3,7 @@ ghost use Rattle.loom_project.specs.Draft.{node_names};
 ghost use Rattle.loom_project.specs.Project.{placed_nodes};
 ghost use Rattle.loom_project.specs.Sound.{node_check, nodes_check, Gives};
 
-use crate::require::{add_name, at_most, number_of};
+use crate::require::{add_name, at_most, label_number};
 use crate::{NodeDraft, Of, ProjectFault};
 use loom_base::{MAX_NODES, Which};
 use loom_formula::NameIndex;
@@ -18,11 +18,12 @@ pub struct Nodes {
 }
 
 /// The nodes by their names and in a topology without segments, or the first failure among them.
-#[tactic(auto, using(crate::proofs::EachLemmas::each_steps), unfolding(crate::specs::Sound::nodes_check))]
+#[tactic(auto, using(loom_base::proofs::EachLemmas::each_steps), unfolding(crate::specs::Sound::nodes_check))]
 pub fn checked_nodes(alloc: Global, nodes: &[NodeDraft]) -> Result<Nodes, ProjectFault>
     ensures gives { Gives result (nodes_check nodes.now) }
     ensures names { IfOk result (λ made. made.names ≡ node_names nodes.now) }
-    ensures topology { IfOk result (λ made. made.topology ≡ record { nodes = placed_nodes nodes.now; segments = []; cavities = [] }) }
+    ensures topology { IfOk result (λ made. made.topology
+        ≡ record { nodes = placed_nodes nodes.now; segments = []; cavities = [] }) }
 {
     at_most(Which::Nodes, MAX_NODES, nodes.len() as u64)?;
     let mut names = NameIndex::new(alloc);
@@ -30,7 +31,7 @@ pub fn checked_nodes(alloc: Global, nodes: &[NodeDraft]) -> Result<Nodes, Projec
     let mut topology = Topology::new(alloc);
     for node in nodes {
         check_node(&mut names, node)?;
-        let harness = number_of(&mut harnesses, node.harness)?;
+        let harness = label_number(&mut harnesses, node.harness)?;
         topology.add_node(harness, node.branch)?;
     }
     Ok(Nodes { names, topology })

@@ -8,7 +8,7 @@ use loom_formula::Options;
 use std::alloc::Global;
 
 /// The options by their names, or the first failure among them.
-#[tactic(auto, using(crate::proofs::EachLemmas::each_steps), unfolding(crate::specs::Sound::options_check))]
+#[tactic(auto, using(loom_base::proofs::EachLemmas::each_steps), unfolding(crate::specs::Sound::options_check))]
 pub fn checked_options(alloc: Global, names: &[Name]) -> Result<Options, ProjectFault>
     ensures gives { Gives result (options_check names.now) }
     ensures options { IfOk result (λ options. options ≡ names.now) }

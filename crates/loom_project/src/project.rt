@@ -1,10 +1,15 @@
-ghost use Rattle.std.specs.Prelude.{◌≡◌, ◌≢◌, ◌<◌, ◌≤◌, All, AllPairs, length, map, Ok, IfOk, OnOk, OnErr};
-ghost use Rattle.loom_project.specs.Draft.{cavity_names};
-ghost use Rattle.loom_project.specs.Project.{topology_of, net_places, net_at, cavities_of, when_at, reserved_of, net_topology};
+ghost use Rattle.std.specs.Prelude.{◌≡◌, ◌≢◌, ◌<◌, ◌≤◌, All, AllPairs, length, map, nat_eq, not, Ok, IfOk, OnOk, OnErr};
+ghost use Rattle.std.specs.List.{IsDistinct};
+ghost use Rattle.loom_formula.specs.NameIndex.{has_name};
+ghost use Rattle.loom_topology.specs.Topology.{segment_at};
+ghost use Rattle.loom_project.specs.Classes.{net_classes};
+ghost use Rattle.loom_project.specs.Draft.{cavity_names, index_of};
+ghost use Rattle.loom_project.specs.Project.{topology_of, net_places, net_at, cavities_of, when_at, reserved_of, bars_of, net_topology, HasSoundTopologies, IsWithinLimits};
 ghost use Rattle.loom_project.specs.Sound.{draft_check, Gives};
 
-use crate::barred::barred_segments;
+use crate::barred::{barred_segments, is_among};
 use crate::cavities::add_cavities;
+use crate::classes::Classes;
 use crate::formulas::checked_rules;
 use crate::nets::checked_nets;
 use crate::nodes::{Nodes, checked_nodes};
@@ -25,6 +30,7 @@ pub struct Project {
     options: Options,
     topology: Topology,
     cavities: List<List<CavityNo>>,
+    classes: Classes,
 }
 
 impl Model for Project {
@@ -58,7 +64,8 @@ fn checked_parts(alloc: Global, draft: &Draft) -> Result<Parts, ProjectFault>
     ensures gives { Gives result (draft_check draft.now) }
     ensures options { IfOk result (λ parts. parts.options ≡ draft.now.options) }
     ensures topology { IfOk result (λ parts. parts.topology ≡ topology_of draft.now) }
-    ensures cavities { IfOk result (λ parts. map (map (λ c. c.0)) parts.cavities ≡ net_places (cavity_names draft.now.cavities) draft.now.nets) }
+    ensures cavities { IfOk result (λ parts. map (map (λ c. c.0)) parts.cavities
+        ≡ net_places (cavity_names draft.now.cavities) draft.now.nets) }
 {
     let nodes = draft.nodes.as_slice();
     let options = checked_options(alloc, draft.options.as_slice())?;
@@ -84,8 +91,8 @@ fn checked_parts(alloc: Global, draft: &Draft) -> Result<Parts, ProjectFault>
 }
 
 impl Project {
-    /// The project of a draft, or the draft's first failure in the order of options, rules, nodes, segments, cavities
-    /// and nets. A draft that isn't sound is dropped.
+    /// The project of a draft, or the draft's first failure in the order of options, rules, nodes,
+    /// segments, cavities and nets. A draft that isn't sound is dropped.
     pub fn check(alloc: Global, draft: Draft) -> Result<Project, ProjectFault>
         ensures gives { Gives result (draft_check draft) }
         ensures kept { IfOk result (λ project. project ≡ draft) }
@@ -95,12 +102,14 @@ impl Project {
             topology,
             cavities,
         } = checked_parts(alloc, &draft)?;
+        let classes = Classes::new(alloc, draft.nets.as_slice(), draft.segments.as_slice())?;
         Ok(Project {
             alloc,
             draft,
             options,
             topology,
             cavities,
+            classes,
         })
     }
 
@@ -115,10 +124,11 @@ impl Project {
         Ok(())
     }
 
-    /// The draft, which is sound.
+    /// The draft, which is sound, and its lists within their limits.
     pub fn draft(&self) -> &Draft
         ensures value { result.now ≡ self.now }
         ensures sound { draft_check self.now ≡ Ok tt }
+        ensures limits { IsWithinLimits self.now }
     {
         &self.draft
     }
@@ -137,7 +147,10 @@ impl Project {
 
     /// The topology with every segment open.
     pub fn topology(&self) -> &Topology
-        ensures { result.now ≡ topology_of self.now }
+        ensures topology { result.now ≡ topology_of self.now }
+        ensures nodes { length result.now.nodes ≡ length self.now.nodes }
+        ensures segments { length result.now.segments ≡ length self.now.segments }
+        ensures cavities { length result.now.cavities ≡ length self.now.cavities }
     {
         &self.topology
     }
@@ -145,10 +158,44 @@ impl Project {
     /// The topology of a net: exactly those segments are shut whose bars name the net's class.
     pub fn topology_of(&self, net: NetNo) -> Result<Topology, NoMemory>
         requires { net.0 < length self.now.nets }
-        ensures { IfOk result (λ topology. topology ≡ net_topology self.now net.0) }
+        ensures topology { IfOk result (λ topology. topology ≡ net_topology self.now net.0) }
+        ensures nodes { IfOk result (λ topology. length topology.nodes ≡ length self.now.nodes) }
+        ensures segments { IfOk result (λ topology. length topology.segments
+            ≡ length self.now.segments) }
+        ensures cavities { IfOk result (λ topology. length topology.cavities
+            ≡ length self.now.cavities) }
     {
-        let barred = barred_segments(self.alloc, self.draft.segments.as_slice(), self.class(net))?;
+        let bars = self.classes.barred.as_slice();
+        let barred = barred_segments(self.alloc, bars, self.class_number(net))?;
         self.topology.shut(barred.as_slice())
+    }
+
+    /// Whether a net may pass a segment, as none of the segment's bars names its class.
+    pub fn is_open_to(&self, net: NetNo, segment: SegmentNo) -> bool
+        requires net { net.0 < length self.now.nets }
+        requires segment { segment.0 < length self.now.segments }
+        ensures bars { result ≡ not (has_name (bars_of self.now segment.0)
+            (net_at self.now net.0).class) }
+        ensures topology { result ≡ (segment_at (net_topology self.now net.0) segment.0).is_open }
+    {
+        let bars = &self.classes.barred.as_slice()[segment.0 as usize];
+        !is_among(bars.as_slice(), self.class_number(net))
+    }
+
+    /// The number of a net's class.
+    fn class_number(&self, net: NetNo) -> u32
+        requires { net.0 < length self.now.nets }
+        ensures { result ≡ index_of (net_classes self.now.nets) (net_at self.now net.0).class }
+    {
+        self.classes.of_nets.as_slice()[net.0 as usize]
+    }
+
+    /// The topologies are sound: cavities lie at nodes, segments join nodes, prices and branch
+    /// costs are within their bounds. This does nothing; a caller whose proof needs it calls it.
+    pub fn has_sound_topologies(&self)
+        ensures { HasSoundTopologies self.now }
+    {
+        let _count = self.topology.node_count();
     }
 
     pub fn net_count(&self) -> u32
@@ -174,6 +221,7 @@ impl Project {
         ensures at_most { length result.now ≤ 12 }
         ensures in_range { All (λ c. c.0 < length self.now.cavities) result.now }
         ensures different { AllPairs (λ a b. a ≢ b) (cavities_of self.now net.0) }
+        ensures each_once { IsDistinct nat_eq (cavities_of self.now net.0) }
     {
         self.cavities.as_slice()[net.0 as usize].as_slice()
     }

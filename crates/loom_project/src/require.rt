@@ -1,7 +1,7 @@
 ghost use Rattle.std.specs.Prelude.{◌≡◌, ◌≤◌, ◌<◌, ◌++◌, ◌∷◌, [], length, IfOk, OnOk};
 ghost use Rattle.loom_formula.specs.NameIndex.{with_name};
-ghost use Rattle.loom_project.specs.First.{require};
-ghost use Rattle.loom_project.specs.Draft.{place_of};
+ghost use Rattle.loom_base.specs.First.{require};
+ghost use Rattle.loom_project.specs.Draft.{index_of};
 ghost use Rattle.loom_project.specs.Sound.{at_most, not_repeated, known, Gives, Answers};
 
 use crate::{Of, ProjectFault};
@@ -31,7 +31,7 @@ pub fn at_most(which: Which, limit: u64, count: u64) -> Result<(), ProjectFault>
 /// The place of a name, which some thing of the kind must have.
 pub fn known(of: Of, names: &NameIndex, name: Name) -> Result<u32, ProjectFault>
     ensures answers { Answers result (known of names.now name) }
-    ensures place { IfOk result (λ place. place ≡ place_of names.now name) }
+    ensures place { IfOk result (λ place. place ≡ index_of names.now name) }
     ensures within { IfOk result (λ place. place < length names.now) }
 {
     match names.position(&name) {
@@ -52,9 +52,9 @@ pub fn add_name(names: &mut NameIndex, of: Of, name: Name) -> Result<(), Project
 
 /// The number of a label, which is numbered behind the others where it is new.
 #[tactic(auto, using(crate::proofs::NameLemmas::names_added))]
-pub fn number_of(labels: &mut NameIndex, label: Name) -> Result<u32, NoMemory>
+pub fn label_number(labels: &mut NameIndex, label: Name) -> Result<u32, NoMemory>
     requires { length labels.old < 65536 }
-    ensures number { IfOk result (λ number. number ≡ place_of labels.new label) }
+    ensures number { IfOk result (λ number. number ≡ index_of labels.new label) }
     ensures added { OnOk result (labels.new ≡ with_name labels.old label) }
 {
     let _ = labels.add(label)?;

@@ -1,8 +1,8 @@
 ghost use Rattle.std.specs.Prelude.{◌≡◌, ◌<◌, ◌≤◌, ◌++◌, ◌∷◌, [], length, map, Ok, IfOk, OnOk, bytes_eq};
 ghost use Rattle.loom_topology.specs.Topology.{with_segment};
 ghost use Rattle.loom_topology.specs.TopologyFault.{number_of_new};
-ghost use Rattle.loom_project.specs.First.{every};
-ghost use Rattle.loom_project.specs.Draft.{place_of, node_names, harness_of, pins_of};
+ghost use Rattle.loom_base.specs.First.{every};
+ghost use Rattle.loom_project.specs.Draft.{index_of, node_names, harness_of, pins_of};
 ghost use Rattle.loom_project.specs.Project.{placed_nodes, placed_segment};
 ghost use Rattle.loom_project.specs.Sound.{border_check, ends_check, pin_check, segment_check, segments_check, Gives, Answers};
 
@@ -14,7 +14,7 @@ use loom_topology::{Kind, Topology, TopologyFault};
 use std::alloc::Global;
 
 /// Adds the segments to a topology of the nodes, or answers the first failure among them.
-#[tactic(auto, using(crate::proofs::EachLemmas::each_steps), unfolding(crate::specs::Sound::segments_check))]
+#[tactic(auto, using(loom_base::proofs::EachLemmas::each_steps), unfolding(crate::specs::Sound::segments_check))]
 pub fn add_segments(
     alloc: Global,
     topology: &mut Topology,
@@ -26,7 +26,9 @@ pub fn add_segments(
     requires nodes { topology.old.nodes ≡ placed_nodes nodes.now }
     requires none { topology.old.segments ≡ [] }
     ensures gives { Gives result (segments_check nodes.now segments.now) }
-    ensures added { OnOk result (topology.new ≡ record topology.old { segments = map (placed_segment (node_names nodes.now)) segments.now }) }
+    ensures added { OnOk result (topology.new ≡ record topology.old {
+      segments = map (placed_segment (node_names nodes.now)) segments.now;
+    }) }
 {
     at_most(Which::Segments, MAX_SEGMENTS, segments.len() as u64)?;
     let mut taken = NameIndex::new(alloc);
@@ -47,7 +49,8 @@ fn add_segment(
     requires from_in_range { from.0 < length topology.old.nodes }
     requires to_in_range { to.0 < length topology.old.nodes }
     requires room { length topology.old.segments < 4096 }
-    requires fits { number_of_new topology.old from.0 to.0 kind ≡ Ok (length topology.old.segments) }
+    requires fits { number_of_new topology.old from.0 to.0 kind
+        ≡ Ok (length topology.old.segments) }
     ensures { OnOk result (topology.new ≡ with_segment topology.old from.0 to.0 kind) }
 {
     match topology.add_segment(from, to, kind) {
@@ -70,8 +73,9 @@ fn checked_segment(
     requires room { length taken.old < 4096 }
     ensures gives { Gives result (segment_check nodes.now taken.old segment.now) }
     ensures taken { OnOk result (taken.new ≡ taken.old ++ segment.now.name ∷ []) }
-    ensures from { IfOk result (λ ends. ends.0.0 ≡ place_of (node_names nodes.now) segment.now.from) }
-    ensures to { IfOk result (λ ends. ends.1.0 ≡ place_of (node_names nodes.now) segment.now.to) }
+    ensures from { IfOk result (λ ends. ends.0.0
+        ≡ index_of (node_names nodes.now) segment.now.from) }
+    ensures to { IfOk result (λ ends. ends.1.0 ≡ index_of (node_names nodes.now) segment.now.to) }
     ensures from_within { IfOk result (λ ends. ends.0.0 < length nodes.now) }
     ensures to_within { IfOk result (λ ends. ends.1.0 < length nodes.now) }
 {
@@ -95,8 +99,9 @@ fn checked_ends(
 ) -> Result<(NodeNo, NodeNo), ProjectFault>
     requires places { places.now ≡ node_names nodes.now }
     ensures answers { Answers result (ends_check nodes.now segment.now) }
-    ensures from { IfOk result (λ ends. ends.0.0 ≡ place_of (node_names nodes.now) segment.now.from) }
-    ensures to { IfOk result (λ ends. ends.1.0 ≡ place_of (node_names nodes.now) segment.now.to) }
+    ensures from { IfOk result (λ ends. ends.0.0
+        ≡ index_of (node_names nodes.now) segment.now.from) }
+    ensures to { IfOk result (λ ends. ends.1.0 ≡ index_of (node_names nodes.now) segment.now.to) }
     ensures from_within { IfOk result (λ ends. ends.0.0 < length nodes.now) }
     ensures to_within { IfOk result (λ ends. ends.1.0 < length nodes.now) }
 {

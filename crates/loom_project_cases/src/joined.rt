@@ -5,7 +5,8 @@ use loom_base::{List, Name};
 use loom_project::{Draft, SegmentDraft};
 use std::alloc::Global;
 
-/// A draft with the option A: the run S1 from N1 to N2 of one harness, a cavity at each, and the net W1 of both.
+/// A draft with the option A: the run S1 from N1 to N2 of one harness, a cavity at each, and the
+/// net W1 of both.
 pub fn joined(alloc: Global) -> Result<Draft> {
     let (n1, n2, harness) = (name("N1")?, name("N2")?, name("H")?);
     let (c1, c2) = (name("C1")?, name("C2")?);

@@ -31,8 +31,8 @@ pub fn topology(rt: &impl Print, alloc: Global) -> Result<()> {
     tell_both(rt, alloc, "cavities", cavities(8_192), cavities(8_193))
 }
 
-/// How many nets, terminals of a net and nodes of all formulas there may be. A rule has one node more than members,
-/// and each of the two terminals has one.
+/// How many nets, terminals of a net and nodes of all formulas there may be. A rule has one node
+/// more than members, and each of the two terminals has one.
 pub fn nets(rt: &impl Print, alloc: Global) -> Result<()> {
     let nets = |nets| Sizes { nets, ..FEW };
     tell_both(rt, alloc, "nets", nets(2_048), nets(2_049))?;

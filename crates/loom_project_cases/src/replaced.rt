@@ -20,7 +20,8 @@ fn empty(alloc: Global) -> Draft {
     }
 }
 
-/// Puts a draft in the place of a project's, and prints what is answered and how many nets there are then.
+/// Puts a draft in the place of a project's, and prints what is answered and how many nets there
+/// are then.
 fn tell_replaced(
     rt: &impl Print,
     alloc: Global,
@@ -95,7 +96,8 @@ fn tell_nets(rt: &impl Print, project: &Project) -> Result<()> {
     Ok(())
 }
 
-/// Prints what is looked up of a net: its class, its cavities, and whether the first segment is open to it.
+/// Prints what is looked up of a net: its class, its cavities, and whether the first segment is
+/// open to it.
 fn tell_net(rt: &impl Print, project: &Project, net: NetNo) -> Result<()>
     requires { net.0 < length project.now.nets }
 {

@@ -35,7 +35,8 @@ pub const FEW: Sizes = Sizes {
     terminals: 2,
 };
 
-/// As much of everything as a project may have: the rules have 40,960 nodes and the terminals 24,576, together 65,536.
+/// As much of everything as a project may have: the rules have 40,960 nodes and the terminals
+/// 24,576, together 65,536.
 pub const MOST: Sizes = Sizes {
     options: 512,
     rules: 1_024,
@@ -126,7 +127,8 @@ fn nets(alloc: Global, sizes: Sizes) -> Result<List<NetDraft>> {
     Ok(nets)
 }
 
-/// A draft of these sizes. Each rule is the conjunction of one option, and each terminal has the formula `true`.
+/// A draft of these sizes. Each rule is the conjunction of one option, and each terminal has the
+/// formula `true`.
 pub fn draft(alloc: Global, sizes: Sizes) -> Result<Draft> {
     Ok(Draft {
         options: names(alloc, "O", sizes.options)?,

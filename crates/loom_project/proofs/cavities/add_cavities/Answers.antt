@@ -1,7 +1,7 @@
 use Rattle.std.proofs.Common.{◌++◌, ◌∷◌, [], ap, sym, ◌∙◌}
 use Rattle.std.proofs.lemmas.Result.{err_from_is_err_and}
 use Rattle.loom_project.specs.Sound.{cavities_check}
-use Rattle.loom_project.proofs.EachLemmas.{list_stops, each_next, map_next}
+use Rattle.loom_base.proofs.EachLemmas.{list_stops, each_next, map_next}
 use Rattle.loom_project.proofs.TopologyLemmas.{cavity_added}
 use Rattle.loom_project.proofs.cavities.add_cavities.Goals as goal
 

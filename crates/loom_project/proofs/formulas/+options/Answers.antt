@@ -1,7 +1,7 @@
 use Rattle.std.proofs.Common.{sym, ap, ◌∙◌}
 use Rattle.std.proofs.lemmas.Result.{err_from_is_err_and}
 use Rattle.loom_project.specs.declared.fault.Of.TheVariants as of
-use Rattle.loom_project.specs.First.{every}
+use Rattle.loom_base.specs.First.{every}
 use Rattle.loom_project.specs.Draft.{option_names}
 use Rattle.loom_project.specs.Sound.{known}
 use Rattle.loom_project.proofs.FormulaLemmas.{flat_next, flat_stops, option_names-And, option_names-Or, option_names-One}

@@ -1,7 +1,7 @@
 use Rattle.std.proofs.Common.{◌≡◌, take, Ok}
 use Rattle.std.specs.List.{flat_map}
 use Rattle.loom_project.specs.declared.fault.Of.TheVariants as of
-use Rattle.loom_project.specs.First.{every}
+use Rattle.loom_base.specs.First.{every}
 use Rattle.loom_project.specs.Draft.{option_names}
 use Rattle.loom_project.specs.Sound.{known}
 use Rattle.loom_project.proofs.formulas.+options.Given as goal

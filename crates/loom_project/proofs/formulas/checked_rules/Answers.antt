@@ -2,7 +2,7 @@ use Rattle.std.proofs.Common.{◌+◌, ap, sym, ◌∙◌}
 use Rattle.std.proofs.lemmas.Result.{err_from_is_err_and}
 use Rattle.loom_formula.specs.Formula.{nodes_of}
 use Rattle.loom_project.specs.Sound.{rules_check}
-use Rattle.loom_project.proofs.EachLemmas.{list_stops, each_next}
+use Rattle.loom_base.proofs.EachLemmas.{list_stops, each_next}
 use Rattle.loom_project.proofs.FormulaLemmas.{sum_next}
 use Rattle.loom_project.proofs.formulas.checked_rules.Goals as goal
 

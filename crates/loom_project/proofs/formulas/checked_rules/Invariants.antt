@@ -1,5 +1,5 @@
 use Rattle.std.proofs.Common.{◌≡◌, ◌≤◌, take, Ok}
-use Rattle.loom_project.specs.First.{each}
+use Rattle.loom_base.specs.First.{each}
 use Rattle.loom_project.specs.Draft.{rule_nodes}
 use Rattle.loom_project.specs.Sound.{formula_check}
 use Rattle.loom_project.proofs.formulas.checked_rules.Given as goal

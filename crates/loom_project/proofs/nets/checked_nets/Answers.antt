@@ -3,7 +3,7 @@ use Rattle.std.proofs.lemmas.Result.{err_from_is_err_and}
 use Rattle.loom_project.specs.Draft.{terminal_nodes}
 use Rattle.loom_project.specs.Project.{terminal_places}
 use Rattle.loom_project.specs.Sound.{nets_check}
-use Rattle.loom_project.proofs.EachLemmas.{list_stops, each_next, map_next, made_next}
+use Rattle.loom_base.proofs.EachLemmas.{list_stops, each_next, map_next, made_next}
 use Rattle.loom_project.proofs.FormulaLemmas.{sum_next}
 use Rattle.loom_project.proofs.nets.checked_nets.Goals as goal
 

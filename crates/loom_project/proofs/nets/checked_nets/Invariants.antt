@@ -1,5 +1,5 @@
 use Rattle.std.proofs.Common.{◌≡◌, ◌≤◌, ◌+◌, take, map, Ok}
-use Rattle.loom_project.specs.First.{each}
+use Rattle.loom_base.specs.First.{each}
 use Rattle.loom_project.specs.Draft.{net_nodes, net_names}
 use Rattle.loom_project.specs.Project.{net_places}
 use Rattle.loom_project.specs.Sound.{net_check}

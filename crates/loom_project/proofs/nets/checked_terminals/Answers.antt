@@ -1,9 +1,9 @@
 use Rattle.std.proofs.Common.{sym, ◌∙◌, arith}
 use Rattle.std.proofs.lemmas.Result.{err_from_is_err_and}
 use Rattle.loom_formula.specs.Formula.{nodes_of}
-use Rattle.loom_project.specs.Draft.{place_of}
+use Rattle.loom_project.specs.Draft.{index_of}
 use Rattle.loom_project.specs.Sound.{terminals_check}
-use Rattle.loom_project.proofs.EachLemmas.{then_passes, list_stops, each_next, made_next}
+use Rattle.loom_base.proofs.EachLemmas.{then_passes, list_stops, each_next, made_next}
 use Rattle.loom_project.proofs.FormulaLemmas.{sum_next}
 use Rattle.loom_project.proofs.nets.checked_terminals.Goals as goal
 
@@ -24,7 +24,7 @@ loop-i-preserved c = record {
     sum_next (λ terminal. nodes_of terminal.when) c.as_slice-terminals.result.now c.loop-i.i c.index-terminals-i.result c.index-terminals-i.is c.loop-i-test.true,
   );
   few = c.in_ok-checked_terminal.ensures.few;
-  places = made_next (λ cavity. cavity.0) (λ terminal. place_of c.args.cavities.now terminal.cavity) _ _ _ _ _ _ c.index-terminals-i.is c.loop-i-test.true
+  places = made_next (λ cavity. cavity.0) (λ terminal. index_of c.args.cavities.now terminal.cavity) _ _ _ _ _ _ c.index-terminals-i.is c.loop-i-test.true
       c.loop-i.invariant.places c.in_ok-checked_terminal.ensures.place c.in_ok-push.ensures.ok;
   passed = each_next _ _ _ _ c.index-terminals-i.is c.loop-i-test.true c.loop-i.invariant.passed
       (rw (← c.loop-i.invariant.counted) c.in_ok-checked_terminal.ensures.answers);

@@ -1,5 +1,5 @@
 use Rattle.std.proofs.Common.{◌≡◌, ◌≤◌, ◌+◌, take, map, Ok}
-use Rattle.loom_project.specs.First.{each}
+use Rattle.loom_base.specs.First.{each}
 use Rattle.loom_project.specs.Draft.{terminal_nodes}
 use Rattle.loom_project.specs.Project.{terminal_places}
 use Rattle.loom_project.specs.Sound.{terminal_check}

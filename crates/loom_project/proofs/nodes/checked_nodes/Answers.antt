@@ -2,7 +2,7 @@ use Rattle.std.proofs.Common.{◌++◌, ◌∷◌, [], ap, sym, ◌∙◌, arith
 use Rattle.std.proofs.lemmas.Result.{err_from_is_err_and}
 use Rattle.loom_formula.specs.NameIndex.{with_name}
 use Rattle.loom_project.specs.Sound.{nodes_check}
-use Rattle.loom_project.proofs.EachLemmas.{list_stops, each_next, map_next}
+use Rattle.loom_base.proofs.EachLemmas.{list_stops, each_next, map_next}
 use Rattle.loom_project.proofs.NameLemmas.{length-harnesses, harnesses_next}
 use Rattle.loom_project.proofs.TopologyLemmas.{node_added}
 use Rattle.loom_project.proofs.nodes.checked_nodes.Goals as goal
@@ -14,8 +14,8 @@ returns-in_err-check_node-clause-gives c =
     rw (p.1, p.2) (λ fresh. list_stops _ _ _ _ _ _ c.in_ok-at_most.ensures.check c.node-item.is c.loop-node-test.true c.loop-node.invariant.passed
     (rw (← c.loop-node.invariant.names) (c.in_err-check_node.ensures.gives fresh)))
 
-pub number_of-requires : goal.number_of-requires
-number_of-requires c =
+pub label_number-requires : goal.label_number-requires
+label_number-requires c =
     rw c.loop-node.invariant.harnesses (omega (arith, length-harnesses c.args.nodes.now c.loop-node.node-index, c.in_ok-at_most.ensures.within))
 
 pub loop-node-preserved : goal.loop-node-preserved

@@ -1,5 +1,5 @@
 use Rattle.std.proofs.Common.{◌≡◌, take, Ok, []}
-use Rattle.loom_project.specs.First.{each}
+use Rattle.loom_base.specs.First.{each}
 use Rattle.loom_project.specs.Draft.{node_names, harness_labels, each_once}
 use Rattle.loom_project.specs.Project.{placed_nodes}
 use Rattle.loom_project.specs.Sound.{node_check}

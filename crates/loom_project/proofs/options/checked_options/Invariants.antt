@@ -1,6 +1,6 @@
 use Rattle.std.proofs.Common.{◌≡◌, take, Ok}
 use Rattle.loom_project.specs.declared.fault.Of.TheVariants as of
-use Rattle.loom_project.specs.First.{each}
+use Rattle.loom_base.specs.First.{each}
 use Rattle.loom_project.specs.Sound.{not_repeated}
 use Rattle.loom_project.proofs.options.checked_options.Given as goal
 

@@ -3,7 +3,7 @@ use Rattle.std.proofs.lemmas.Result.{err_from_is_err_and}
 use Rattle.loom_topology.specs.Topology.{TopologyView}
 use Rattle.loom_project.specs.Project.{placed_nodes}
 use Rattle.loom_project.specs.Sound.{segments_check}
-use Rattle.loom_project.proofs.EachLemmas.{list_stops, each_next, map_next}
+use Rattle.loom_base.proofs.EachLemmas.{list_stops, each_next, map_next}
 use Rattle.loom_project.proofs.SegmentLemmas.{segment_fits}
 use Rattle.loom_project.proofs.TopologyLemmas.{segment_added}
 use Rattle.loom_project.proofs.segments.add_segments.Goals as goal

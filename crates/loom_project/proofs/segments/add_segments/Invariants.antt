@@ -1,5 +1,5 @@
 use Rattle.std.proofs.Common.{◌≡◌, take, map, Ok}
-use Rattle.loom_project.specs.First.{each}
+use Rattle.loom_base.specs.First.{each}
 use Rattle.loom_project.specs.Draft.{node_names, segment_names}
 use Rattle.loom_project.specs.Project.{placed_segment}
 use Rattle.loom_project.specs.Sound.{segment_check}

@@ -1,6 +1,6 @@
 use Rattle.std.proofs.Common.{sym}
 use Rattle.std.proofs.lemmas.Result.{err_from_is_err_and}
-use Rattle.loom_project.proofs.EachLemmas.{every_next_number, every_stops_number}
+use Rattle.loom_base.proofs.EachLemmas.{every_next_number, every_stops_number}
 use Rattle.loom_project.proofs.segments.check_pins.Goals as goal
 
 pub returns-in_err-check_pin : goal.returns-in_err-check_pin

@@ -1,5 +1,5 @@
 use Rattle.std.proofs.Common.{◌≡◌, take, Ok}
-use Rattle.loom_project.specs.First.{every}
+use Rattle.loom_base.specs.First.{every}
 use Rattle.loom_project.specs.Sound.{pin_check}
 use Rattle.loom_project.proofs.segments.check_pins.Given as goal
 

@@ -3,6 +3,8 @@ use Rattle.std.proofs.lemmas.List.{length-map}
 use Rattle.loom_project.specs.Draft.{cavity_names}
 use Rattle.loom_project.specs.Project.{net_places, net_at, cavities_of}
 use Rattle.loom_project.specs.Sound.{draft_check}
+use Rattle.std.proofs.lemmas.Bool.Decides.{Decides-eqb}
+use Rattle.std.proofs.lemmas.Map.Made.{IsDistinct-from_AllPairs}
 use Rattle.loom_project.proofs.PartsLemmas.{places_at}
 use Rattle.loom_project.proofs.NetLemmas.{net_sound, at_least_two, at_most_twelve, all_in_range, all_different}
 use Rattle.loom_project.proofs.project.Project.cavities.Goals as goal
@@ -26,4 +28,5 @@ returns c =
       at_most = at_most_twelve names terminals found sound places;
       in_range = all_in_range names terminals found _ sound places (length-map draft.cavities (λ cavity. cavity.name));
       different = all_different names terminals sound;
+      each_once = IsDistinct-from_AllPairs Decides-eqb _ (all_different names terminals sound);
     }
