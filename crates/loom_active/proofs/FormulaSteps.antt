@@ -9,7 +9,7 @@ use Rattle.loom_rows.specs.Leftovers.{AreSame, Works}
 use Rattle.loom_rows.specs.Formulas.{always, work_of, worked_of, meaning_of, all_work, all_hold}
 use Rattle.loom_rows.proofs.Members.{AllSoFar, all_join, and_assoc, and_unit, so_far-init, so_far-stop, so_far-stop_join, so_far-next, so_far-works, so_far-value}
 use Rattle.loom_active.specs.Valid.{conjunction_worked}
-use Rattle.loom_active.proofs.FormulaWork.{work_meaning}
+use Rattle.loom_rows.proofs.FormulaWork.{work_meaning}
 
 -- the formulas before the k-th are worked out, and x is their conjunction
 abbrev pub FormulasSoFar : List (List ℕ) → List Formula → ℕ → Table → Table → Cond → Type 0

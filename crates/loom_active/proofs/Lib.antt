@@ -1,4 +1,16 @@
-pub mod FormulaWork
 pub mod FormulaSteps
 pub mod RuleStops
 pub mod OnePrinted
+pub mod Steps
+pub mod Masks
+pub mod Alike
+pub mod PatternLemmas
+pub mod PatternSteps
+pub mod TerminalSteps
+pub mod Pairs
+pub mod SetLemmas
+pub mod SetSteps
+pub mod UserLemmas
+pub mod ClashLemmas
+pub mod UserSteps
+pub mod LiveLemmas

@@ -1,3 +1,12 @@
+pub mod Clash
+pub mod FoundSets
+pub mod LiveSets
+pub mod LiveStops
+pub mod LiveWork
 pub mod Needs
+pub mod Patterns
 pub mod RightPlan
+pub mod Terminals
+pub mod Usages
+pub mod Users
 pub mod Valid

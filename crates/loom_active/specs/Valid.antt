@@ -8,7 +8,7 @@ use Rattle.loom_rows.specs.Condition.{Meaning}
 use Rattle.loom_rows.specs.Leftovers.{IsRowOf, AreMoreThan}
 use Rattle.loom_rows.specs.Formulas.{always, all_work, work_of}
 use Rattle.loom_active.specs.declared.stop.ActiveStop.{ActiveStop}
-use Rattle.loom_active.specs.declared.stop.ActiveStop.TheVariants.{NoChoice, Limit, NoMemory}
+use Rattle.loom_active.specs.declared.stop.ActiveStop.TheVariants.{NoChoice, Clash, Limit, NoMemory}
 use Rattle.loom_active.specs.Needs.{is_valid_for}
 
 -- the conditions that are worked out for the conjunction of formulas, in order: for each formula its own, then the
@@ -41,5 +41,6 @@ stop_of rows.NoMemory = NoMemory
 -- run out at any time
 abbrev pub IsStopOf : Draft → ActiveStop → Type 0
 IsStopOf draft NoChoice = NoneIsValid draft × (NeedTooManyRows (rules_worked draft) → ⊥)
+IsStopOf draft (Clash cavity first second choice) = ⊥
 IsStopOf draft (Limit which count) = (which ≡ limits.Rows) × (count ≡ 262145) × NeedTooManyRows (rules_worked draft)
 IsStopOf draft NoMemory = Unit {0}

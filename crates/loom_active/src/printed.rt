@@ -14,21 +14,25 @@ use loom_project::Project;
 use loom_rows::Rows;
 use std::alloc::Global;
 
-/// Decision rows, and the number among them of the condition that holds exactly under the valid choices.
+/// Decision rows, and the number among them of the condition that holds exactly under the valid
+/// choices.
 #[derive(Debug, Drop)]
 pub struct ValidRows {
     pub rows: RowList,
     pub row: u32,
 }
 
-/// The printed rows of the condition that holds exactly under the valid choices, and its number. The rows are made in
-/// an arena of this call.
+/// The printed rows of the condition that holds exactly under the valid choices, and its number. The
+/// rows are made in an arena of this call.
 ///
 /// The stops are those of `valid`.
 pub fn valid_printed(alloc: Global, project: &Project) -> Result<ValidRows, ActiveStop>
-    ensures value { IfOk result (λ valid. (choice : ℕ → Bool) → value_of valid.rows choice valid.row ≡ is_valid_for project.now choice) }
-    ensures printed { IfOk result (λ valid. IsPrinted (is_valid_for project.now ∷ []) valid.rows (valid.row ∷ [])) }
-    ensures options { IfOk result (λ valid. AreOptionsBelow (length project.now.options) valid.rows) }
+    ensures value { IfOk result (λ valid. (choice : ℕ → Bool)
+        → value_of valid.rows choice valid.row ≡ is_valid_for project.now choice) }
+    ensures printed { IfOk result (λ valid.
+        IsPrinted (is_valid_for project.now ∷ []) valid.rows (valid.row ∷ [])) }
+    ensures options { IfOk result (λ valid.
+        AreOptionsBelow (length project.now.options) valid.rows) }
     ensures some_choice { OnOk result (SomeIsValid project.now) }
     ensures few_rows { OnOk result (NeedTooManyRows (rules_worked project.now) → ⊥) }
     ensures stop { IfErr result (IsStopOf project.now) }

@@ -1,13 +1,25 @@
-use loom_base::{MAX_ROWS, NoMemory, Which};
+use loom_base::{CavityNo, MAX_ROWS, NetNo, NoMemory, Which};
+use loom_formula::Choice;
 use loom_rows::RowsStop;
 
 /// Why the conditions of a project aren't worked out.
-#[derive(Clone, Copy, Debug, PartialEq, Eq)]
+#[derive(Debug, Drop)]
 pub enum ActiveStop {
     /// No choice is valid.
     NoChoice,
+    /// A valid choice, the least one, makes the cavity active in two nets: the lowest such cavity,
+    /// then the lowest two nets.
+    Clash {
+        cavity: CavityNo,
+        first: NetNo,
+        second: NetNo,
+        choice: Choice,
+    },
     /// A limit is passed; the count is the limit plus one.
-    Limit { which: Which, count: u64 },
+    Limit {
+        which: Which,
+        count: u64,
+    },
     /// Memory ran out.
     NoMemory,
 }
