@@ -31,7 +31,8 @@ use Rattle.loom_project.specs.declared.draft.TerminalDraft.{TerminalDraft}
 use Rattle.loom_answer.specs.Answer.{answer_of}
 use Rattle.loom_answer.specs.Plans.{row_shown, step_shown, set_shown, cell_shown, mask_shown, cells_shown, table_shown, pin_shown, module_shown, plan_shown}
 use Rattle.loom_answer.specs.Projects.{formula_step, formula_shown, node_shown, kind_shown, segment_draft_shown, cavity_shown, terminal_shown, net_shown, project_shown}
-use Rattle.loom_answer.specs.Values.{whole, list_of, numbers, tagged}
+use Rattle.loom_json.specs.Fields.{array_of}
+use Rattle.loom_answer.specs.Values.{whole, numbers, tagged}
 use Rattle.loom_answer.specs.Wires.{segment_shown, end_shown, wire_shown}
 
 -- members without a float
@@ -56,7 +57,7 @@ add_string key text rest = add key (string text) refl rest
 
 -- a member that is a list, each element shown the same way
 abbrev add_list : {X : Type 0} (key : List ℕ) (shows : X → Data) → ((x : X) → has_float (shows x) ≡ false) → (xs : List X) → Plain → Plain
-add_list key shows is xs rest = add key (list_of (map shows xs)) (items_have_float-map shows is xs) rest
+add_list key shows is xs rest = add key (array_of (map shows xs)) (items_have_float-map shows is xs) rest
 
 numbers_plain : (ns : List ℕ) → has_float (numbers ns) ≡ false
 numbers_plain ns = items_have_float-map whole (λ n. refl) ns
@@ -227,10 +228,10 @@ project_plain draft =
 answer_plain : (plan : Plan) (draft : Draft) → has_float (answer_of plan draft) ≡ false
 answer_plain plan draft =
     (add_whole (codes "version") 1
-    (add (codes "reports") (list_of []) refl
+    (add (codes "reports") (array_of []) refl
     (add (codes "project") (project_shown draft) (project_plain draft)
     (add (codes "plan") (plan_shown plan) (plan_plain plan)
-    (add (codes "outcomes") (list_of []) refl
+    (add (codes "outcomes") (array_of []) refl
     none))))).plain
 
 -- a value that is an answer has no float

@@ -10,7 +10,8 @@ use Rattle.loom_types.specs.declared.plan.PinLine.{PinLine}
 use Rattle.loom_types.specs.declared.plan.TableLine.{TableLine}
 use Rattle.loom_types.specs.declared.plan.Module.{Module}
 use Rattle.loom_types.specs.declared.plan.Plan.{Plan}
-use Rattle.loom_answer.specs.Values.{whole, list_of, numbers}
+use Rattle.loom_json.specs.Fields.{array_of}
+use Rattle.loom_answer.specs.Values.{whole, numbers}
 use Rattle.loom_answer.specs.Wires.{wire_shown}
 
 -- a row is printed as its option, its low and its high
@@ -24,8 +25,8 @@ step_shown step = numbers (step.0 ∷ step.1.0 ∷ [])
 -- an object's members with those that show a layout
 abbrev pub with_layout_shown : Layout → Members → Members
 with_layout_shown layout members =
-    put (codes "steps") (list_of (map step_shown layout.steps))
-    (put (codes "hangs") (list_of (map whole layout.hangs)) members)
+    put (codes "steps") (array_of (map step_shown layout.steps))
+    (put (codes "hangs") (array_of (map whole layout.hangs)) members)
 
 -- how a live set is printed
 abbrev pub set_shown : SetLine → Data
@@ -43,11 +44,11 @@ cell_shown (Some n) = whole n
 
 -- the cells of a mask, node by node
 abbrev pub mask_shown : TableView → ℕ → Data
-mask_shown table mask = list_of (map (λ v. cell_shown (cell_at table mask v)) (range_with_len 0 table.nodes))
+mask_shown table mask = array_of (map (λ v. cell_shown (cell_at table mask v)) (range_with_len 0 table.nodes))
 
 -- the cells of a table, mask by mask
 abbrev pub cells_shown : TableView → Data
-cells_shown table = list_of (map (λ place. mask_shown table (place + 1)) (range_with_len 0 table.masks))
+cells_shown table = array_of (map (λ place. mask_shown table (place + 1)) (range_with_len 0 table.masks))
 
 -- how a table is printed
 abbrev pub table_shown : TableLine → Data
@@ -68,7 +69,7 @@ pin_shown line = object
 -- how a module is printed
 abbrev pub module_shown : Module → Data
 module_shown part = object
-    (put (codes "wires") (list_of (map whole part.wires))
+    (put (codes "wires") (array_of (map whole part.wires))
     (put (codes "row") (whole part.row)
     (put (codes "harness") (whole part.harness)
     no_members)))
@@ -76,10 +77,10 @@ module_shown part = object
 -- how a plan is printed
 abbrev pub plan_shown : Plan → Data
 plan_shown plan = object
-    (put (codes "wires") (list_of (map wire_shown plan.wires))
-    (put (codes "tables") (list_of (map table_shown plan.tables))
-    (put (codes "sets") (list_of (map set_shown plan.sets))
-    (put (codes "rows") (list_of (map row_shown plan.rows))
-    (put (codes "pins") (list_of (map pin_shown plan.pins))
-    (put (codes "modules") (list_of (map module_shown plan.modules))
+    (put (codes "wires") (array_of (map wire_shown plan.wires))
+    (put (codes "tables") (array_of (map table_shown plan.tables))
+    (put (codes "sets") (array_of (map set_shown plan.sets))
+    (put (codes "rows") (array_of (map row_shown plan.rows))
+    (put (codes "pins") (array_of (map pin_shown plan.pins))
+    (put (codes "modules") (array_of (map module_shown plan.modules))
     no_members))))))

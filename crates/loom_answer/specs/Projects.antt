@@ -11,17 +11,18 @@ use Rattle.loom_project.specs.declared.draft.SegmentDraft.{SegmentDraft}
 use Rattle.loom_project.specs.declared.draft.CavityDraft.{CavityDraft}
 use Rattle.loom_project.specs.declared.draft.NetDraft.{NetDraft}
 use Rattle.loom_project.specs.declared.draft.TerminalDraft.{TerminalDraft}
-use Rattle.loom_answer.specs.Values.{whole, list_of}
+use Rattle.loom_json.specs.Fields.{array_of}
+use Rattle.loom_answer.specs.Values.{whole}
 
 -- how a formula is printed, from how its inner formulas are printed
 abbrev pub formula_step : Formula-F Data (List Data) → Data
 formula_step Formula-F.Always = boolean true
 formula_step Formula-F.Never = boolean false
 formula_step (Formula-F.Is name) = string name
-formula_step (Formula-F.Not inner) = list_of (string (codes "not") ∷ inner ∷ [])
-formula_step (Formula-F.And members) = list_of (string (codes "and") ∷ members)
-formula_step (Formula-F.Or members) = list_of (string (codes "or") ∷ members)
-formula_step (Formula-F.One members) = list_of (string (codes "one") ∷ members)
+formula_step (Formula-F.Not inner) = array_of (string (codes "not") ∷ inner ∷ [])
+formula_step (Formula-F.And members) = array_of (string (codes "and") ∷ members)
+formula_step (Formula-F.Or members) = array_of (string (codes "or") ∷ members)
+formula_step (Formula-F.One members) = array_of (string (codes "one") ∷ members)
 
 -- how a formula is printed
 abbrev pub formula_shown : Formula → Data
@@ -54,6 +55,7 @@ coupler_shown segment price pins = object
     (put (codes "from") (string segment.from)
     no_members)))))
 
+-- how a segment of this kind is printed
 abbrev pub kind_shown : SegmentDraft → Kind → Data
 kind_shown segment (Run length) = run_shown segment length
 kind_shown segment (Coupler price pins) = coupler_shown segment price pins
@@ -80,17 +82,17 @@ terminal_shown terminal = object
 -- how a net is printed
 abbrev pub net_shown : NetDraft → Data
 net_shown net = object
-    (put (codes "terminals") (list_of (map terminal_shown net.terminals))
+    (put (codes "terminals") (array_of (map terminal_shown net.terminals))
     (put (codes "name") (string net.name)
     no_members))
 
 -- how a project is printed
 abbrev pub project_shown : Draft → Data
 project_shown draft = object
-    (put (codes "segments") (list_of (map segment_draft_shown draft.segments))
-    (put (codes "rules") (list_of (map formula_shown draft.rules))
-    (put (codes "options") (list_of (map string draft.options))
-    (put (codes "nodes") (list_of (map node_shown draft.nodes))
-    (put (codes "nets") (list_of (map net_shown draft.nets))
-    (put (codes "cavities") (list_of (map cavity_shown draft.cavities))
+    (put (codes "segments") (array_of (map segment_draft_shown draft.segments))
+    (put (codes "rules") (array_of (map formula_shown draft.rules))
+    (put (codes "options") (array_of (map string draft.options))
+    (put (codes "nodes") (array_of (map node_shown draft.nodes))
+    (put (codes "nets") (array_of (map net_shown draft.nets))
+    (put (codes "cavities") (array_of (map cavity_shown draft.cavities))
     no_members))))))

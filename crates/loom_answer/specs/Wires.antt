@@ -4,7 +4,8 @@ use Rattle.loom_base.specs.declared.positions.SegmentNo.{SegmentNo}
 use Rattle.loom_types.specs.declared.wire.End.{End}
 use Rattle.loom_types.specs.declared.wire.End.TheVariants.{Cavity, Splice, Pin}
 use Rattle.loom_types.specs.declared.wire.Wire.{Wire}
-use Rattle.loom_answer.specs.Values.{whole, list_of, tagged}
+use Rattle.loom_json.specs.Fields.{array_of}
+use Rattle.loom_answer.specs.Values.{whole, tagged}
 
 -- a segment is printed as its position
 abbrev pub segment_shown : SegmentNo → Data
@@ -21,7 +22,7 @@ abbrev pub wire_shown : Wire → Data
 wire_shown w = object
     (put (codes "to") (end_shown w.to)
     (put (codes "row") (whole w.row)
-    (put (codes "route") (list_of (map segment_shown w.route))
+    (put (codes "route") (array_of (map segment_shown w.route))
     (put (codes "net") (whole w.net.0)
     (put (codes "length") (whole w.length)
     (put (codes "from") (end_shown w.from)

@@ -13,6 +13,3 @@ mod wires;
 
 pub use fault_answer::{limit, project_fault};
 pub use plan_answer::answer;
-pub use plans::PlanShown;
-pub use projects::{FormulaShown, ProjectShown};
-pub use wires::{EndShown, WireShown};

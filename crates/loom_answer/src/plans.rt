@@ -174,7 +174,7 @@ impl Shown for ModuleShown {
 }
 
 /// Shows a plan.
-pub struct PlanShown;
+pub(crate) struct PlanShown;
 
 impl Shown for PlanShown {
     type Of = Plan;

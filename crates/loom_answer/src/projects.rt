@@ -3,7 +3,7 @@ ghost use Rattle.std.specs.Prelude.{◌≡◌, ◌++◌, ◌∷◌, [], map, tak
 ghost use Rattle.serde_json.specs.Data.{string};
 ghost use Rattle.serde_json.specs.View.{view};
 ghost use Rattle.loom_formula.specs.Formula.{members_of};
-ghost use Rattle.loom_answer.specs.Values.{list_of};
+ghost use Rattle.loom_json.specs.Fields.{array_of};
 ghost use Rattle.loom_answer.specs.Projects.{formula_shown, node_shown, run_shown, coupler_shown, segment_draft_shown, cavity_shown, terminal_shown, net_shown, project_shown};
 
 use crate::values::whole;
@@ -47,7 +47,8 @@ fn formula_value(alloc: Global, formula: &Formula) -> Result<Value, NoMemory>
 /// The value of the formula that holds where the inner one doesn't.
 #[cycle(showing)]
 fn not_value(alloc: Global, inner: &Formula) -> Result<Value, NoMemory>
-    ensures { IfOk result (λ value. view value ≡ list_of (string (codes "not") ∷ formula_shown inner.now ∷ [])) }
+    ensures { IfOk result (λ value. view value
+        ≡ array_of (string (codes "not") ∷ formula_shown inner.now ∷ [])) }
 {
     let word = shown::text(alloc, "not")?;
     let inner = formula_value(alloc, inner)?;
@@ -57,7 +58,8 @@ fn not_value(alloc: Global, inner: &Formula) -> Result<Value, NoMemory>
 /// The value of a formula of several members.
 #[cycle(showing)]
 fn members_value(alloc: Global, word: &str, members: &Members) -> Result<Value, NoMemory>
-    ensures { IfOk result (λ value. view value ≡ list_of (string word.now ∷ map formula_shown (members_of members.now))) }
+    ensures { IfOk result (λ value. view value
+        ≡ array_of (string word.now ∷ map formula_shown (members_of members.now))) }
 {
     let mut values = vec![in alloc; shown::text(alloc, word)?]?;
     for member in members.as_slice() {
@@ -67,7 +69,7 @@ fn members_value(alloc: Global, word: &str, members: &Members) -> Result<Value, 
 }
 
 /// Shows a formula.
-pub struct FormulaShown;
+struct FormulaShown;
 
 impl Shown for FormulaShown {
     type Of = Formula;
@@ -201,7 +203,7 @@ impl Shown for NetShown {
 }
 
 /// Shows a project.
-pub struct ProjectShown;
+pub(crate) struct ProjectShown;
 
 impl Shown for ProjectShown {
     type Of = Draft;

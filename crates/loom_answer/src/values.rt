@@ -9,14 +9,14 @@ use serde_json::Value;
 use std::alloc::Global;
 
 /// A whole number.
-pub fn whole(n: u64) -> Value
+pub(crate) fn whole(n: u64) -> Value
     ensures { view result ≡ whole n }
 {
     Value::from(n)
 }
 
 /// Shows a whole number of 32 bits.
-pub struct WholeShown;
+pub(crate) struct WholeShown;
 
 impl Shown for WholeShown {
     type Of = u32;
@@ -29,7 +29,7 @@ impl Shown for WholeShown {
 }
 
 /// An array of whole numbers.
-pub fn numbers(alloc: Global, ns: &[u64]) -> Result<Value, NoMemory>
+pub(crate) fn numbers(alloc: Global, ns: &[u64]) -> Result<Value, NoMemory>
     ensures { IfOk result (λ value. view value ≡ numbers_of ns.now) }
 {
     let mut shown = Vec::new(alloc);
@@ -40,7 +40,7 @@ pub fn numbers(alloc: Global, ns: &[u64]) -> Result<Value, NoMemory>
 }
 
 /// An array of a word and whole numbers.
-pub fn tagged(alloc: Global, tag: &str, ns: &[u64]) -> Result<Value, NoMemory>
+pub(crate) fn tagged(alloc: Global, tag: &str, ns: &[u64]) -> Result<Value, NoMemory>
     ensures { IfOk result (λ value. view value ≡ tagged_of tag.now ns.now) }
 {
     let mut shown = vec![in alloc; shown::text(alloc, tag)?]?;

@@ -11,7 +11,7 @@ use serde_json::{Map, Value};
 use std::alloc::Global;
 
 /// Shows an end of a wire: a word and its numbers.
-pub struct EndShown;
+struct EndShown;
 
 impl Shown for EndShown {
     type Of = End;
@@ -49,7 +49,7 @@ impl Shown for SegmentShown {
 }
 
 /// Shows a wire.
-pub struct WireShown;
+pub(crate) struct WireShown;
 
 impl Shown for WireShown {
     type Of = Wire;
