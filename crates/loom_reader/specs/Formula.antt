@@ -3,8 +3,11 @@ use Rattle.std.specs.Prelude.{ℕ, suc, List, [], ◌∷◌, length, drop, slice
 use Rattle.std.specs.Str.{bytes_eq}
 use Rattle.serde_json.specs.Data.{Data, null, boolean, number, string, array, object, Items, no_items, item}
 use Rattle.serde_json.specs.Find.{as_str}
-use Rattle.loom_json.specs.Fields.{name_of, list_of}
-use Rattle.loom_json.specs.Forms.{◌>>=◌, required, under, each}
+use Rattle.loom_json.specs.Fields.{list_of}
+use Rattle.loom_base.specs.First.{◌>>=◌}
+use Rattle.loom_base.specs.Names.{name_of}
+use Rattle.loom_base.specs.declared.limits.TheConstants.{MAX_ELEMENTS}
+use Rattle.loom_json.specs.Forms.{required, under, each}
 use Rattle.loom_formula.specs.declared.formula.Formula.{Formula}
 use Rattle.loom_formula.specs.declared.formula.Formula.TheVariants.{Always, Never, Is, Not, And, Or, One}
 use Rattle.loom_formula.specs.declared.formula.Members.{Members, roll-Members}
@@ -26,15 +29,16 @@ connective_in d = option_and_then connective_of (as_str d)
 -- whether so many elements may be the word and its members: `not` has one member, the others any number
 abbrev pub may_have : Connective → ℕ → Bool
 may_have Negation count = count == 2
-may_have Conjunction count = nat_le count 4294967293
-may_have Disjunction count = nat_le count 4294967293
-may_have ExactlyOne count = nat_le count 4294967293
+may_have Conjunction count = nat_le count MAX_ELEMENTS
+may_have Disjunction count = nat_le count MAX_ELEMENTS
+may_have ExactlyOne count = nat_le count MAX_ELEMENTS
 
 -- the connective with which an array of a formula begins
 abbrev pub heading_of : List Data → Option Connective
 heading_of ds = option_and_then (λ connective. if may_have connective (length ds) then Some connective else None)
     (option_and_then connective_in (slice_get ds 0))
 
+-- the members of a formula, in order
 abbrev pub members : List Formula → Members
 members formulas = roll-Members (record { list = formulas })
 
@@ -49,23 +53,23 @@ joined ExactlyOne formulas = Ok (One (members formulas))
 
 -- a formula: a truth value, an option's name, or an array of a word and formulas
 abbrev mutual
-  pub formula_at : Data → Result Formula (List ℕ)
-  formula_at null = Err []
-  formula_at (boolean b) = Ok (if b then Always else Never)
-  formula_at (number n) = Err []
-  formula_at (string s) = required (name_of s) >>= λ name. Ok (Is name)
-  formula_at (array no_items) = Err []
-  formula_at (array (item first rest)) =
-      required (heading_of (first ∷ list_of rest)) >>= λ connective. members_at 1 rest >>= joined connective
-  formula_at (object ms) = Err []
+  pub formula_form : Data → Result Formula (List ℕ)
+  formula_form null = Err []
+  formula_form (boolean b) = Ok (if b then Always else Never)
+  formula_form (number n) = Err []
+  formula_form (string s) = required (name_of s) >>= λ name. Ok (Is name)
+  formula_form (array no_items) = Err []
+  formula_form (array (item first rest)) =
+      required (heading_of (first ∷ list_of rest)) >>= λ connective. members_form 1 rest >>= joined connective
+  formula_form (object ms) = Err []
 
-  pub members_at : ℕ → Items → Result (List Formula) (List ℕ)
-  members_at position no_items = Ok []
-  members_at position (item d ds) = do
-    formula ← under (decimal position) (formula_at d)
-    formulas ← members_at (suc position) ds
+  pub members_form : ℕ → Items → Result (List Formula) (List ℕ)
+  members_form position no_items = Ok []
+  members_form position (item d ds) = do
+    formula ← under (decimal position) (formula_form d)
+    formulas ← members_form (suc position) ds
     Ok (formula ∷ formulas)
 
 -- the formula of an array's elements
-unfoldable pub compound_at : List Data → Result Formula (List ℕ)
-compound_at ds = required (heading_of ds) >>= λ connective. each formula_at 1 (drop 1 ds) >>= joined connective
+unfoldable pub compound_form : List Data → Result Formula (List ℕ)
+compound_form ds = required (heading_of ds) >>= λ connective. each formula_form 1 (drop 1 ds) >>= joined connective

@@ -1,23 +1,24 @@
 -- A project as it is written down.
 use Rattle.std.specs.Prelude.{ℕ, List, [], ◌∷◌, Result, Ok, codes}
 use Rattle.serde_json.specs.Data.{Data}
-use Rattle.loom_json.specs.Forms.{◌>>=◌, keyed, at_key, list, name_at}
+use Rattle.loom_base.specs.First.{◌>>=◌}
+use Rattle.loom_json.specs.Forms.{keyed, at_key, list, name_form}
 use Rattle.loom_project.specs.declared.draft.Draft.{Draft}
-use Rattle.loom_reader.specs.Formula.{formula_at}
-use Rattle.loom_reader.specs.Parts.{node_at, segment_at, cavity_at, net_at}
+use Rattle.loom_reader.specs.Formula.{formula_form}
+use Rattle.loom_reader.specs.Parts.{node_form, segment_form, cavity_form, net_form}
 
 -- the keys of a project
 abbrev pub project_keys : List (List ℕ)
 project_keys = codes "options" ∷ codes "rules" ∷ codes "nodes" ∷ codes "segments" ∷ codes "cavities" ∷ codes "nets" ∷ []
 
 -- a project's draft, with its lists in reading order
-unfoldable pub project_at : Data → Result Draft (List ℕ)
-project_at d = do
+unfoldable pub project_form : Data → Result Draft (List ℕ)
+project_form d = do
   checked ← keyed project_keys d
-  options ← at_key (list name_at) (codes "options") d
-  rules ← at_key (list formula_at) (codes "rules") d
-  nodes ← at_key (list node_at) (codes "nodes") d
-  segments ← at_key (list segment_at) (codes "segments") d
-  cavities ← at_key (list cavity_at) (codes "cavities") d
-  nets ← at_key (list net_at) (codes "nets") d
+  options ← at_key (list name_form) (codes "options") d
+  rules ← at_key (list formula_form) (codes "rules") d
+  nodes ← at_key (list node_form) (codes "nodes") d
+  segments ← at_key (list segment_form) (codes "segments") d
+  cavities ← at_key (list cavity_form) (codes "cavities") d
+  nets ← at_key (list net_form) (codes "nets") d
   Ok (record { options = options; rules = rules; nodes = nodes; segments = segments; cavities = cavities; nets = nets })

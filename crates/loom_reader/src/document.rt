@@ -14,7 +14,8 @@ use std::alloc::Global;
 /// A document of version 1.
 #[derive(Drop)]
 pub struct Document {
-    /// The project, as it is before the edits. Each net has the class `std`; no segment bars a class or reserves a pin.
+    /// The project, as it is before the edits. Each net has the class `std`; no segment bars a
+    /// class or reserves a pin.
     pub project: Project,
     /// The limits of the design rules; empty where the document has none.
     pub limits: List<u64>,
@@ -40,8 +41,8 @@ fn checked_document(alloc: Global, outline: Outline) -> Result<Document, ReadFau
     })
 }
 
-/// Reads the bytes of a document (`document_of`). Faults are tried in the order of `ReadFault`, and each comes exactly
-/// where it is the first in reading order; only `NoMemory` is free to come.
+/// Reads the bytes of a document (`document_of`). Faults are tried in the order of `ReadFault`, and
+/// each comes exactly where it is the first in reading order; only `NoMemory` is free to come.
 #[tactic(auto, unfolding(crate::specs::Document::document_of))]
 pub fn read(alloc: Global, bytes: &[u8]) -> Result<Document, ReadFault>
     ensures gives { GivesDocument result (document_of bytes.now) }

@@ -1,4 +1,4 @@
-use loom_json::{JsonStop, Path, ReadStop};
+use loom_json::{JsonStop, Path, ShapeStop};
 use loom_project::ProjectFault;
 
 /// Why bytes weren't read as a document: its first failure, in this order.
@@ -28,16 +28,16 @@ impl From<JsonStop> for ReadFault {
     }
 }
 
-impl From<ReadStop> for ReadFault {
+impl From<ShapeStop> for ReadFault {
     ghost use Rattle.std.specs.Prelude.{◌≡◌};
     ghost use Rattle.loom_reader.specs.Faults.{shape_fault};
 
     ghost from_gives = { λ stop fault. fault ≡ shape_fault stop };
 
-    fn from(stop: ReadStop) -> ReadFault {
+    fn from(stop: ShapeStop) -> ReadFault {
         match stop {
-            ReadStop::WrongShape { path } => ReadFault::WrongShape { path },
-            ReadStop::NoMemory => ReadFault::NoMemory,
+            ShapeStop::WrongShape { path } => ReadFault::WrongShape { path },
+            ShapeStop::NoMemory => ReadFault::NoMemory,
         }
     }
 }

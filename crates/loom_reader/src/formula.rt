@@ -3,17 +3,15 @@ ghost use Rattle.std.specs.Result.{result_map_both};
 ghost use Rattle.serde_json.specs.View.{view};
 ghost use Rattle.loom_json.specs.Forms.{Gives, each};
 ghost use Rattle.loom_formula.specs.Formula.{members_of};
-ghost use Rattle.loom_reader.specs.Formula.{connective_in, may_have, heading_of, formula_at, compound_at};
+ghost use Rattle.loom_reader.specs.Formula.{connective_in, may_have, heading_of, formula_form, compound_form};
 
+use loom_base::MAX_ELEMENTS;
 use loom_formula::{Formula, Members};
 use loom_json::forms::{self, Form};
-use loom_json::{ReadStop, name};
+use loom_json::{ShapeStop, name};
 use serde_json::Value;
 use sqlite_items::Boxed;
 use std::alloc::Global;
-
-/// The most elements that an array of a form has.
-const MAX_ELEMENTS: usize = 4_294_967_293;
 
 /// What an array of formulas says of its members.
 #[derive(Clone, Copy, Debug)]
@@ -36,7 +34,7 @@ impl Connective {
         match self {
             Connective::Negation => count == 2,
             Connective::Conjunction | Connective::Disjunction | Connective::ExactlyOne => {
-                count <= MAX_ELEMENTS
+                count as u64 <= MAX_ELEMENTS
             }
         }
     }
@@ -46,17 +44,12 @@ impl Connective {
 fn read_connective(value: &Value) -> Option<Connective>
     ensures { result ≡ connective_in (view value.now) }
 {
-    let word = value.as_str()?;
-    if word == "not" {
-        Some(Connective::Negation)
-    } else if word == "and" {
-        Some(Connective::Conjunction)
-    } else if word == "or" {
-        Some(Connective::Disjunction)
-    } else if word == "one" {
-        Some(Connective::ExactlyOne)
-    } else {
-        None
+    match value.as_str()? {
+        "not" => Some(Connective::Negation),
+        "and" => Some(Connective::Conjunction),
+        "or" => Some(Connective::Disjunction),
+        "one" => Some(Connective::ExactlyOne),
+        _ => None,
     }
 }
 
@@ -79,31 +72,31 @@ pub struct FormulaForm;
 impl Form for FormulaForm {
     type Out = Formula;
 
-    ghost reads = { formula_at };
+    ghost reads = { formula_form };
 
-    fn read(alloc: Global, value: &Value) -> Result<Formula, ReadStop> {
+    fn read(alloc: Global, value: &Value) -> Result<Formula, ShapeStop> {
         read_formula(alloc, value)
     }
 }
 
 #[cycle(reading)]
-fn read_formula(alloc: Global, value: &Value) -> Result<Formula, ReadStop>
-    ensures { Gives result (formula_at (view value.now)) }
+fn read_formula(alloc: Global, value: &Value) -> Result<Formula, ShapeStop>
+    ensures { Gives result (formula_form (view value.now)) }
 {
     match value {
         Value::Bool(true) => Ok(Formula::Always),
         Value::Bool(false) => Ok(Formula::Never),
         Value::String(_) => Ok(Formula::Is(forms::required(alloc, name(value))?)),
         Value::Array(elements) => read_compound(alloc, elements),
-        Value::Null | Value::Number(_) | Value::Object(_) => Err(ReadStop::here(alloc)),
+        Value::Null | Value::Number(_) | Value::Object(_) => Err(ShapeStop::here(alloc)),
     }
 }
 
 /// The formula of an array's elements.
 #[cycle(reading)]
-#[tactic(auto, unfolding(crate::specs::Formula::compound_at))]
-fn read_compound(alloc: Global, elements: &[Value]) -> Result<Formula, ReadStop>
-    ensures { Gives result (compound_at (map view elements.now)) }
+#[tactic(auto, unfolding(crate::specs::Formula::compound_form))]
+fn read_compound(alloc: Global, elements: &[Value]) -> Result<Formula, ShapeStop>
+    ensures { Gives result (compound_form (map view elements.now)) }
 {
     match heading(elements) {
         Some(Connective::Negation) => {
@@ -113,14 +106,15 @@ fn read_compound(alloc: Global, elements: &[Value]) -> Result<Formula, ReadStop>
         Some(Connective::Conjunction) => Ok(Formula::And(read_members(alloc, elements)?)),
         Some(Connective::Disjunction) => Ok(Formula::Or(read_members(alloc, elements)?)),
         Some(Connective::ExactlyOne) => Ok(Formula::One(read_members(alloc, elements)?)),
-        None => Err(ReadStop::here(alloc)),
+        None => Err(ShapeStop::here(alloc)),
     }
 }
 
 /// The members of a formula, which are the elements behind the first.
 #[cycle(reading)]
-fn read_members(alloc: Global, elements: &[Value]) -> Result<Members, ReadStop>
-    ensures { Gives (result_map_both members_of (λ stop. stop) result) (each formula_at 1 (drop 1 (map view elements.now))) }
+fn read_members(alloc: Global, elements: &[Value]) -> Result<Members, ShapeStop>
+    ensures { Gives (result_map_both members_of (λ stop. stop) result)
+        (each formula_form 1 (drop 1 (map view elements.now))) }
 {
     let mut members = Members::new(alloc);
     for position in 1..elements.len() {

@@ -1,10 +1,10 @@
 ghost use Rattle.std.specs.Prelude.{◌≡◌};
 ghost use Rattle.serde_json.specs.View.{view};
 ghost use Rattle.loom_json.specs.Fields.{number_in};
-ghost use Rattle.loom_reader.specs.Parts.{price_at, branch_at, pins_at};
+ghost use Rattle.loom_reader.specs.Parts.{price_form, branch_form, pins_form};
 
 use loom_base::{Branch, Pins, Price};
-use loom_json::ReadStop;
+use loom_json::ShapeStop;
 use loom_json::forms::{self, Form};
 use serde_json::Value;
 use std::alloc::Global;
@@ -36,9 +36,9 @@ pub struct PriceForm;
 impl Form for PriceForm {
     type Out = Price;
 
-    ghost reads = { price_at };
+    ghost reads = { price_form };
 
-    fn read(alloc: Global, value: &Value) -> Result<Price, ReadStop> {
+    fn read(alloc: Global, value: &Value) -> Result<Price, ShapeStop> {
         forms::required(alloc, price(value))
     }
 }
@@ -49,9 +49,9 @@ pub struct BranchForm;
 impl Form for BranchForm {
     type Out = Branch;
 
-    ghost reads = { branch_at };
+    ghost reads = { branch_form };
 
-    fn read(alloc: Global, value: &Value) -> Result<Branch, ReadStop> {
+    fn read(alloc: Global, value: &Value) -> Result<Branch, ShapeStop> {
         forms::required(alloc, branch(value))
     }
 }
@@ -62,9 +62,9 @@ pub struct PinsForm;
 impl Form for PinsForm {
     type Out = Pins;
 
-    ghost reads = { pins_at };
+    ghost reads = { pins_form };
 
-    fn read(alloc: Global, value: &Value) -> Result<Pins, ReadStop> {
+    fn read(alloc: Global, value: &Value) -> Result<Pins, ShapeStop> {
         forms::required(alloc, pins(value))
     }
 }

@@ -1,8 +1,8 @@
-ghost use Rattle.loom_reader.specs.Document.{count_at, outline_at};
+ghost use Rattle.loom_reader.specs.Document.{count_form, outline_form};
 
 use crate::project::ProjectForm;
 use loom_base::List;
-use loom_json::ReadStop;
+use loom_json::ShapeStop;
 use loom_json::forms::{self, Form, ListForm, NumberForm};
 use loom_project::Draft;
 use serde_json::Value;
@@ -14,12 +14,12 @@ pub struct CountForm;
 impl Form for CountForm {
     type Out = u64;
 
-    ghost reads = { count_at };
+    ghost reads = { count_form };
 
-    fn read(alloc: Global, value: &Value) -> Result<u64, ReadStop> {
+    fn read(alloc: Global, value: &Value) -> Result<u64, ShapeStop> {
         match forms::items(value) {
             Some(elements) => Ok(elements.len() as u64),
-            None => Err(ReadStop::here(alloc)),
+            None => Err(ShapeStop::here(alloc)),
         }
     }
 }
@@ -38,10 +38,10 @@ pub struct OutlineForm;
 impl Form for OutlineForm {
     type Out = Outline;
 
-    ghost reads = { outline_at };
+    ghost reads = { outline_form };
 
-    #[tactic(auto, unfolding(crate::specs::Document::outline_at))]
-    fn read(alloc: Global, value: &Value) -> Result<Outline, ReadStop> {
+    #[tactic(auto, unfolding(crate::specs::Document::outline_form))]
+    fn read(alloc: Global, value: &Value) -> Result<Outline, ShapeStop> {
         forms::keyed(
             alloc,
             value,

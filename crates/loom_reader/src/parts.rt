@@ -1,13 +1,13 @@
 ghost use Rattle.std.specs.Prelude.{◌≡◌, codes};
 ghost use Rattle.serde_json.specs.View.{view};
 ghost use Rattle.loom_json.specs.Forms.{Gives};
-ghost use Rattle.loom_reader.specs.Parts.{node_at, run_at, coupler_at, is_coupler, segment_at, cavity_at, terminal_at, net_at};
+ghost use Rattle.loom_reader.specs.Parts.{node_form, run_form, coupler_form, has_coupler_keys, segment_form, cavity_form, terminal_form, net_form};
 
 use crate::formula::FormulaForm;
 use crate::numbers::{BranchForm, PinsForm, PriceForm};
 use loom_base::{List, Name};
 use loom_json::forms::{self, Form, ListForm, NameForm};
-use loom_json::{ReadStop, member};
+use loom_json::{ShapeStop, member};
 use loom_project::{CavityDraft, NetDraft, NodeDraft, SegmentDraft, TerminalDraft};
 use loom_topology::Kind;
 use serde_json::Value;
@@ -19,10 +19,10 @@ pub struct NodeForm;
 impl Form for NodeForm {
     type Out = NodeDraft;
 
-    ghost reads = { node_at };
+    ghost reads = { node_form };
 
-    #[tactic(auto, unfolding(crate::specs::Parts::node_at))]
-    fn read(alloc: Global, value: &Value) -> Result<NodeDraft, ReadStop> {
+    #[tactic(auto, unfolding(crate::specs::Parts::node_form))]
+    fn read(alloc: Global, value: &Value) -> Result<NodeDraft, ShapeStop> {
         forms::keyed(alloc, value, &["name", "harness", "branch"])?;
         let name = forms::at_key::<NameForm>(alloc, value, "name")?;
         let harness = forms::at_key::<NameForm>(alloc, value, "harness")?;
@@ -37,14 +37,14 @@ impl Form for NodeForm {
 
 /// Whether a segment is read as a coupler.
 fn has_coupler_keys(value: &Value) -> bool
-    ensures { result ≡ is_coupler (view value.now) }
+    ensures { result ≡ has_coupler_keys (view value.now) }
 {
     member(value, "price").is_some() || member(value, "pins").is_some()
 }
 
-#[tactic(auto, unfolding(crate::specs::Parts::run_at))]
-fn run(alloc: Global, value: &Value) -> Result<SegmentDraft, ReadStop>
-    ensures { Gives result (run_at (view value.now)) }
+#[tactic(auto, unfolding(crate::specs::Parts::run_form))]
+fn run(alloc: Global, value: &Value) -> Result<SegmentDraft, ShapeStop>
+    ensures { Gives result (run_form (view value.now)) }
 {
     forms::keyed(alloc, value, &["name", "from", "to", "length"])?;
     let name = forms::at_key::<NameForm>(alloc, value, "name")?;
@@ -61,9 +61,9 @@ fn run(alloc: Global, value: &Value) -> Result<SegmentDraft, ReadStop>
     })
 }
 
-#[tactic(auto, unfolding(crate::specs::Parts::coupler_at))]
-fn coupler(alloc: Global, value: &Value) -> Result<SegmentDraft, ReadStop>
-    ensures { Gives result (coupler_at (view value.now)) }
+#[tactic(auto, unfolding(crate::specs::Parts::coupler_form))]
+fn coupler(alloc: Global, value: &Value) -> Result<SegmentDraft, ShapeStop>
+    ensures { Gives result (coupler_form (view value.now)) }
 {
     forms::keyed(alloc, value, &["name", "from", "to", "price", "pins"])?;
     let name = forms::at_key::<NameForm>(alloc, value, "name")?;
@@ -87,10 +87,10 @@ pub struct SegmentForm;
 impl Form for SegmentForm {
     type Out = SegmentDraft;
 
-    ghost reads = { segment_at };
+    ghost reads = { segment_form };
 
-    #[tactic(auto, unfolding(crate::specs::Parts::segment_at))]
-    fn read(alloc: Global, value: &Value) -> Result<SegmentDraft, ReadStop> {
+    #[tactic(auto, unfolding(crate::specs::Parts::segment_form))]
+    fn read(alloc: Global, value: &Value) -> Result<SegmentDraft, ShapeStop> {
         if has_coupler_keys(value) {
             coupler(alloc, value)
         } else {
@@ -105,10 +105,10 @@ pub struct CavityForm;
 impl Form for CavityForm {
     type Out = CavityDraft;
 
-    ghost reads = { cavity_at };
+    ghost reads = { cavity_form };
 
-    #[tactic(auto, unfolding(crate::specs::Parts::cavity_at))]
-    fn read(alloc: Global, value: &Value) -> Result<CavityDraft, ReadStop> {
+    #[tactic(auto, unfolding(crate::specs::Parts::cavity_form))]
+    fn read(alloc: Global, value: &Value) -> Result<CavityDraft, ShapeStop> {
         forms::keyed(alloc, value, &["name", "device", "node"])?;
         let name = forms::at_key::<NameForm>(alloc, value, "name")?;
         let device = forms::at_key::<NameForm>(alloc, value, "device")?;
@@ -123,10 +123,10 @@ pub struct TerminalForm;
 impl Form for TerminalForm {
     type Out = TerminalDraft;
 
-    ghost reads = { terminal_at };
+    ghost reads = { terminal_form };
 
-    #[tactic(auto, unfolding(crate::specs::Parts::terminal_at))]
-    fn read(alloc: Global, value: &Value) -> Result<TerminalDraft, ReadStop> {
+    #[tactic(auto, unfolding(crate::specs::Parts::terminal_form))]
+    fn read(alloc: Global, value: &Value) -> Result<TerminalDraft, ShapeStop> {
         forms::keyed(alloc, value, &["cavity", "when"])?;
         let cavity = forms::at_key::<NameForm>(alloc, value, "cavity")?;
         let when = forms::at_key::<FormulaForm>(alloc, value, "when")?;
@@ -135,6 +135,7 @@ impl Form for TerminalForm {
 }
 
 /// The class of each net of a document that doesn't name classes.
+#[tactic(auto, unfolding(loom_base::specs::Names::is_name))]
 fn standard_class() -> Name
     ensures { result ≡ codes "std" }
 {
@@ -150,10 +151,10 @@ pub struct NetForm;
 impl Form for NetForm {
     type Out = NetDraft;
 
-    ghost reads = { net_at };
+    ghost reads = { net_form };
 
-    #[tactic(auto, unfolding(crate::specs::Parts::net_at))]
-    fn read(alloc: Global, value: &Value) -> Result<NetDraft, ReadStop> {
+    #[tactic(auto, unfolding(crate::specs::Parts::net_form))]
+    fn read(alloc: Global, value: &Value) -> Result<NetDraft, ShapeStop> {
         forms::keyed(alloc, value, &["name", "terminals"])?;
         let name = forms::at_key::<NameForm>(alloc, value, "name")?;
         let terminals = forms::at_key::<ListForm<TerminalForm>>(alloc, value, "terminals")?;

@@ -1,8 +1,8 @@
-ghost use Rattle.loom_reader.specs.Project.{project_at};
+ghost use Rattle.loom_reader.specs.Project.{project_form};
 
 use crate::formula::FormulaForm;
 use crate::parts::{CavityForm, NetForm, NodeForm, SegmentForm};
-use loom_json::ReadStop;
+use loom_json::ShapeStop;
 use loom_json::forms::{self, Form, ListForm, NameForm};
 use loom_project::Draft;
 use serde_json::Value;
@@ -14,10 +14,10 @@ pub struct ProjectForm;
 impl Form for ProjectForm {
     type Out = Draft;
 
-    ghost reads = { project_at };
+    ghost reads = { project_form };
 
-    #[tactic(auto, unfolding(crate::specs::Project::project_at))]
-    fn read(alloc: Global, value: &Value) -> Result<Draft, ReadStop> {
+    #[tactic(auto, unfolding(crate::specs::Project::project_form))]
+    fn read(alloc: Global, value: &Value) -> Result<Draft, ShapeStop> {
         forms::keyed(
             alloc,
             value,

@@ -3,8 +3,14 @@ use std::alloc::Global;
 use std::test::Fail;
 
 /// Two nodes, a run between them, a cavity at each, and a net of both cavities.
-const SMALL: &str =
-    "{\"version\":1,\"project\":{\"options\":[],\"rules\":[],\"nodes\":[{\"name\":\"N1\",\"harness\":\"H\",\"branch\":0},{\"name\":\"N2\",\"harness\":\"H\",\"branch\":0}],\"segments\":[{\"name\":\"S1\",\"from\":\"N1\",\"to\":\"N2\",\"length\":700}],\"cavities\":[{\"name\":\"C1\",\"device\":\"D\",\"node\":\"N1\"},{\"name\":\"C2\",\"device\":\"D\",\"node\":\"N2\"}],\"nets\":[{\"name\":\"W1\",\"terminals\":[{\"cavity\":\"C1\",\"when\":true},{\"cavity\":\"C2\",\"when\":true}]}]}}";
+const SMALL: &str = "{\"version\":1,\"project\":{\"options\":[],\"rules\":[],\
+     \"nodes\":[{\"name\":\"N1\",\"harness\":\"H\",\"branch\":0},\
+     {\"name\":\"N2\",\"harness\":\"H\",\"branch\":0}],\
+     \"segments\":[{\"name\":\"S1\",\"from\":\"N1\",\"to\":\"N2\",\"length\":700}],\
+     \"cavities\":[{\"name\":\"C1\",\"device\":\"D\",\"node\":\"N1\"},\
+     {\"name\":\"C2\",\"device\":\"D\",\"node\":\"N2\"}],\
+     \"nets\":[{\"name\":\"W1\",\"terminals\":[\
+     {\"cavity\":\"C1\",\"when\":true},{\"cavity\":\"C2\",\"when\":true}]}]}}";
 
 /// What the small document is read as, once the first `old` text in it is another.
 fn small_with(alloc: Global, old: &str, new: &str) -> Result<Result<Document, ReadFault>, Fail> {
