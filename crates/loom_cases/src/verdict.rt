@@ -1,4 +1,5 @@
-ghost use Rattle.std.specs.Prelude.{◌≡◌};
+ghost use Rattle.std.specs.Prelude.{◌≡◌, ◌≢◌, ◌↔◌};
+ghost use Rattle.loom_top.specs.Run.{exit_number};
 
 use crate::case::Wanted;
 use loom_top::Status;
@@ -13,9 +14,14 @@ pub enum Verdict {
 }
 
 impl Verdict {
-    /// Compares a status and what was written with what is wanted.
+    /// Compares a status and what was written with what is wanted; the status comes first.
     pub fn of(status: Status, held: &[u8], wanted: &Wanted) -> Verdict
-        ensures { result ≡ Verdict.AsWanted → held.now ≡ wanted.now.line.items }
+        ensures as_wanted { (result ≡ Verdict.AsWanted)
+            ↔ (exit_number status ≡ wanted.now.status) × (held.now ≡ wanted.now.line.items) }
+        ensures other_status { (result ≡ Verdict.OtherStatus (exit_number status) wanted.now.status)
+            ↔ (exit_number status ≢ wanted.now.status) }
+        ensures other_line { (result ≡ Verdict.OtherLine)
+            ↔ (exit_number status ≡ wanted.now.status) × (held.now ≢ wanted.now.line.items) }
     {
         let status = status.number();
         if status != wanted.status {

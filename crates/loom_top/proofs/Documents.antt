@@ -7,7 +7,6 @@ use Rattle.loom_base.proofs.StreamLemmas.{takes_known}
 use Rattle.loom_json.specs.Text.{line_of, read_json}
 use Rattle.std.specs.Option.{option_map_or}
 use Rattle.serde_json.specs.Data.{Data}
-use Rattle.loom_project.specs.declared.draft.Draft.{Draft}
 use Rattle.loom_project.specs.declared.fault.ProjectFault.{ProjectFault}
 use Rattle.loom_project.specs.Sound.{draft_check}
 use Rattle.loom_reader.specs.declared.document.Document.{Document}
@@ -15,10 +14,11 @@ use Rattle.loom_reader.specs.declared.fault.ReadFault.{ReadFault}
 use Rattle.loom_reader.specs.declared.fault.ReadFault.TheVariants as faults
 use Rattle.loom_reader.specs.declared.fault.ReadFault.TheVariants.{NotJson}
 use Rattle.loom_reader.specs.declared.outline.Outline.{Outline}
-use Rattle.loom_reader.specs.Document.{document_of, shaped, checked, outline_at}
+use Rattle.loom_reader.specs.Document.{document_of, shaped, checked, outline_form}
 use Rattle.loom_top.specs.Plannable.{IsPlannable, HasChoices, is_plain}
 use Rattle.loom_top.specs.Refusals.{IsCause, refusal_shown}
-use Rattle.loom_top.specs.Replies.{Accepts, Refuses, HasNoPlan, IsRefused, IsReply, RepliesTo}
+use Rattle.loom_top.specs.Replies.{IsRead, Accepts, Refuses, IsRefused, IsReply}
+use Rattle.loom_top.specs.declared.reply.Reply.{Reply}
 use Rattle.loom_top.specs.declared.refusal.Refusal.{Refusal}
 use Rattle.loom_top.specs.declared.refusal.Refusal.TheVariants as refusals
 use Rattle.loom_top.specs.declared.refusal.Refusal.TheVariants.{NotBuilt, TooLong}
@@ -39,7 +39,7 @@ shaped_is_json (Ok outline) h = checked_is_json outline (draft_check outline.dra
 shaped_is_json (Err path) h = absurd (cc)
 
 abbrev pub reading_of : Option Data → Reading
-reading_of json = option_map_or (λ d. shaped (outline_at d)) json (Err NotJson)
+reading_of json = option_map_or (λ d. shaped (outline_form d)) json (Err NotJson)
 
 some_json : (json : Option Data) (reading : Reading) → reading ≢ Err NotJson → reading_of json ≡ reading → (d : Data) × (json ≡ Some d)
 some_json None reading other h = absurd (other (sym h))
@@ -47,7 +47,7 @@ some_json (Some d) reading other h = (d, refl)
 
 none_json : (json : Option Data) → reading_of json ≡ Err NotJson → json ≡ None
 none_json None h = refl
-none_json (Some d) h = absurd (shaped_is_json (outline_at d) h)
+none_json (Some d) h = absurd (shaped_is_json (outline_form d) h)
 
 -- bytes that are read, or fail later, are a JSON text
 json_of : (input : List ℕ) (reading : Reading) → reading ≢ Err NotJson → document_of input ≡ reading → (d : Data) × (read_json input ≡ Some d)
@@ -69,105 +69,82 @@ same_document a b reading h k = ap (or_else a) (sym h ∙ k)
 document_is_no_fault : (document : Document) (fault : ReadFault) → Ok document ≢ Err fault
 document_is_no_fault document fault h = absurd (cc)
 
--- a document's answer or refusal replies to its bytes
-pub reply_of_document : (input line : List ℕ) (document : Document) (is_done : Bool) → length input ≤ 67108864 → document_of input ≡ Ok document
-    → RepliesTo document is_done line → IsReply input is_done line
-reply_of_document input line document true short reads answer = record {
-  draft = document.project;
-  accepted = record { short = short; document = document; reads = reads; plannable = answer.plannable; project = refl; choices = answer.choices };
-  plan = answer.plan;
-  planned = answer.planned;
-  line_is = answer.line_is;
-}
-reply_of_document input line document false short reads refusal = record {
-  refusal = refusal.refusal;
-  refused = Refuses.not_planned short document reads refusal.refusal refusal.refused;
-  line_is = refusal.line_is;
-}
-
 -- what a refusal's line replies to
 pub reply_refuses : (input line : List ℕ) (is_done : Bool) (refusal : Refusal) → Refuses input refusal
-    → (is_done ≡ false) × (line ≡ line_of (refusal_shown refusal)) → IsReply input is_done line
-reply_refuses input line is_done refusal refused (not_done, line_is) =
+    → is_done ≡ false → line ≡ line_of (refusal_shown refusal) → IsReply input is_done line
+reply_refuses input line is_done refusal refused not_done line_is =
     let declines : IsReply input false line = record { refusal = refusal; refused = refused; line_is = line_is } in
     subst (λ (b : Bool). IsReply input b line) (sym not_done) declines
+
+-- the reply that refuses bytes
+pub bytes_refused : {E : Type 0} (input : List ℕ) (refusal : Refusal) (result : Result Reply E) → Refuses input refusal
+    → IfOk result (λ reply. reply.is_done ≡ false) → IfOk result (λ reply. reply.line ≡ line_of (refusal_shown refusal))
+    → IfOk result (λ reply. IsReply input reply.is_done reply.line)
+bytes_refused input refusal (Ok reply) refused not_done line_is =
+    reply_refuses input reply.line reply.is_done refusal refused not_done line_is
+bytes_refused input refusal (Err e) refused not_done line_is = _
+
+-- the reply that refuses a document
+pub document_refused : {E : Type 0} (document : Document) (refusal : Refusal) (result : Result Reply E) → IsRefused document refusal
+    → IfOk result (λ reply. reply.is_done ≡ false) → IfOk result (λ reply. reply.line ≡ line_of (refusal_shown refusal))
+    → IfOk result (λ reply. (input : List ℕ) → IsRead input document → IsReply input reply.is_done reply.line)
+document_refused document refusal (Ok reply) refused not_done line_is = λ input read.
+    reply_refuses input reply.line reply.is_done refusal (Refuses.not_planned document read refusal refused) not_done line_is
+document_refused document refusal (Err e) refused not_done line_is = _
 
 -- a document with a plan isn't refused
 not_refused : (document : Document) → IsPlannable document → HasChoices document.project → (refusal : Refusal) → IsRefused document refusal → ⊥
 not_refused document plannable choices NotBuilt unplannable = unplannable plannable
-not_refused document plannable choices (refusals.Limit which count) (form, (joined, is_rows, counted, many)) = choices.few_rows many
-not_refused document plannable choices refusals.NoChoice (form, (joined, none, few)) = none choices.some_choice.0 choices.some_choice.1
-not_refused document plannable choices TooLong refused = refused.1
-not_refused document plannable choices refusals.NotJson refused = refused.1
-not_refused document plannable choices (refusals.WrongShape path) refused = refused.1
-not_refused document plannable choices (refusals.Project fault) refused = refused.1
+not_refused document plannable choices (refusals.Limit which count) (form, is_rows, counted, many) = choices.few_rows many
+not_refused document plannable choices refusals.NoChoice (form, none, few) = none choices.some_choice.0 choices.some_choice.1
+not_refused document plannable choices TooLong refused = refused
+not_refused document plannable choices refusals.NotJson refused = refused
+not_refused document plannable choices (refusals.WrongShape path) refused = refused
+not_refused document plannable choices (refusals.Project fault) refused = refused
 
 -- an input that is accepted isn't refused
-accepted_not_refused : (input : List ℕ) (draft : Draft) (refusal : Refusal) → Accepts input draft → Refuses input refusal → ⊥
-accepted_not_refused input draft refusal accepted (Refuses.too_long long) = absurd (omega (arith, long, accepted.short))
-accepted_not_refused input draft refusal accepted (Refuses.not_json short none) =
-    let json = json_of input (Ok accepted.document) (document_is_no_fault accepted.document NotJson) accepted.reads in
+accepted_not_refused : (input : List ℕ) (refusal : Refusal) → Accepts input → Refuses input refusal → ⊥
+accepted_not_refused input refusal accepted (Refuses.too_long long) = absurd (omega (arith, long, accepted.read.short))
+accepted_not_refused input refusal accepted (Refuses.not_json short none) =
+    let json = json_of input (Ok accepted.document) (document_is_no_fault accepted.document NotJson) accepted.read.document_is in
     absurd (cc)
-accepted_not_refused input draft refusal accepted (Refuses.not_shaped short path fails) =
-    document_is_no_fault accepted.document (faults.WrongShape path) (sym accepted.reads ∙ fails)
-accepted_not_refused input draft refusal accepted (Refuses.not_sound short fault fails) =
-    document_is_no_fault accepted.document (faults.Project fault) (sym accepted.reads ∙ fails)
-accepted_not_refused input draft refusal accepted (Refuses.not_planned short document reads cause refused) =
-    let same : document ≡ accepted.document = same_document document accepted.document (document_of input) reads accepted.reads in
+accepted_not_refused input refusal accepted (Refuses.not_shaped short path fails) =
+    document_is_no_fault accepted.document (faults.WrongShape path) (sym accepted.read.document_is ∙ fails)
+accepted_not_refused input refusal accepted (Refuses.not_sound short fault fails) =
+    document_is_no_fault accepted.document (faults.Project fault) (sym accepted.read.document_is ∙ fails)
+accepted_not_refused input refusal accepted (Refuses.not_planned document read cause refused) =
+    let same : document ≡ accepted.document = same_document document accepted.document (document_of input) read.document_is accepted.read.document_is in
     let here : IsRefused accepted.document cause = subst (λ (d : Document). IsRefused d cause) same refused in
-    let choices : HasChoices accepted.document.project = subst (λ (d : Draft). HasChoices d) (sym accepted.project) accepted.choices in
-    not_refused accepted.document accepted.plannable choices cause here
+    not_refused accepted.document accepted.plannable accepted.choices cause here
 
--- why the project of a document has no plan is why the document is refused
-pub is_refused : (document : Document) (refusal : Refusal) → is_plain document ≡ true → HasNoPlan document.project refusal → IsRefused document refusal
-is_refused document NotBuilt plain apart = λ plannable. apart plannable.joined
-is_refused document (refusals.Limit which count) plain why = (record { plain = plain; joined = why.0 }, why)
-is_refused document refusals.NoChoice plain why = (record { plain = plain; joined = why.0 }, why)
-is_refused document TooLong plain why = absurd why
-is_refused document refusals.NotJson plain why = absurd why
-is_refused document (refusals.WrongShape path) plain why = absurd why
-is_refused document (refusals.Project fault) plain why = absurd why
-
--- and it is no want of memory
-pub stop_is_cause : (draft : Draft) (refusal : Refusal) → HasNoPlan draft refusal → IsCause refusal
-stop_is_cause draft TooLong why = absurd why
-stop_is_cause draft refusals.NotJson why = absurd why
-stop_is_cause draft (refusals.WrongShape path) why = absurd why
-stop_is_cause draft (refusals.Project fault) why = absurd why
-stop_is_cause draft NotBuilt why = _
-stop_is_cause draft (refusals.Limit which count) why = _
-stop_is_cause draft refusals.NoChoice why = _
+-- why a document is refused is no want of memory
+pub refused_by_cause : (document : Document) (refusal : Refusal) → IsRefused document refusal → IsCause refusal
+refused_by_cause document TooLong why = absurd why
+refused_by_cause document refusals.NotJson why = absurd why
+refused_by_cause document (refusals.WrongShape path) why = absurd why
+refused_by_cause document (refusals.Project fault) why = absurd why
+refused_by_cause document NotBuilt why = _
+refused_by_cause document (refusals.Limit which count) why = _
+refused_by_cause document refusals.NoChoice why = _
 
 -- a document of another form isn't planned
 pub not_plain : (document : Document) (b : Bool) → b ≡ is_plain document → b ≡ false → IsRefused document NotBuilt
 not_plain document b plain other = λ plannable. let h : false ≡ true = sym other ∙ plain ∙ plannable.plain in cc
 
--- the line of a refusal replies to its document
-pub document_refused : (document : Document) (line : List ℕ) (is_done : Bool) (refusal : Refusal) → IsRefused document refusal
-    → (is_done ≡ false) × (line ≡ line_of (refusal_shown refusal)) → RepliesTo document is_done line
-document_refused document line is_done refusal refused (not_done, line_is) =
-    let here : RepliesTo document false line = record { refusal = refusal; refused = refused; line_is = line_is } in
-    subst (λ (b : Bool). RepliesTo document b line) (sym not_done) here
-
--- what holds of an answer holds of it in other words
-pub ok_map : {A E : Type 0} (result : Result A E) (P Q : A → Type 0) → ((x : A) → P x → Q x) → IfOk result P → IfOk result Q
-ok_map (Ok x) P Q f h = f x h
-ok_map (Err e) P Q f h = _
-
 -- more bytes were taken than an input may have
 pub too_long_reply : (left new : Option (List ℕ)) (line : List ℕ) (is_done : Bool) → Takes left new 67108865
-    → (is_done ≡ false) × (line ≡ line_of (refusal_shown TooLong)) → IfSome left (λ input. IsReply input is_done line)
-too_long_reply None new line is_done takes shown = _
-too_long_reply (Some input) new line is_done takes shown =
-    reply_refuses input line is_done TooLong (Refuses.too_long (omega (arith, takes_known input new 67108865 takes))) shown
+    → is_done ≡ false → line ≡ line_of (refusal_shown TooLong) → IfSome left (λ input. IsReply input is_done line)
+too_long_reply None new line is_done takes not_done line_is = _
+too_long_reply (Some input) new line is_done takes not_done line_is =
+    reply_refuses input line is_done TooLong (Refuses.too_long (omega (arith, takes_known input new 67108865 takes))) not_done line_is
 
 -- a reply to an input that is accepted isn't a refusal
-pub reply_accepts : (left : Option (List ℕ)) (input line : List ℕ) (draft : Draft) (is_done : Bool) → left ≡ Some input → Accepts input draft
+pub reply_accepts : (left : Option (List ℕ)) (input line : List ℕ) (is_done : Bool) → left ≡ Some input → Accepts input
     → is_done ≡ false → IfSome left (λ input. IsReply input is_done line) → ⊥
-reply_accepts left input line draft is_done known accepted not_done reply =
+reply_accepts left input line is_done known accepted not_done reply =
     let told : IsReply input is_done line = subst (λ (l : Option (List ℕ)). IfSome l (λ input. IsReply input is_done line)) known reply in
     let declines : IsReply input false line = subst (λ (b : Bool). IsReply input b line) not_done told in
-    accepted_not_refused input draft declines.refusal accepted declines.refused
+    accepted_not_refused input declines.refusal accepted declines.refused
 
 -- what is neither silent, refused nor a fault is done
 pub done_of : (s : Status) → (IsSilent s → ⊥) → (s ≡ status.Refused → ⊥) → (s ≡ status.WriteFault → ⊥) → s ≡ status.Done

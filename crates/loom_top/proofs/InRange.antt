@@ -1,25 +1,14 @@
 -- The cavities of the topology of a net, and where nets are joined.
 use Rattle.std.proofs.Common.{sym, subst, ◌≤◌, get_or, map, slice_index, Option, Some, None, IfSome, ◌≡◌, ℕ, zero, suc, ◌<◌, true, List, [], ◌∷◌, length, arith, ap, ◌∙◌}
-use Rattle.std.proofs.lemmas.List.{length-map, get_or-map}
+use Rattle.std.proofs.lemmas.List.{get_or-map}
 use Rattle.loom_base.specs.declared.positions.CavityNo.{CavityNo}
 use Rattle.loom_project.specs.declared.draft.Draft.{Draft}
 use Rattle.loom_project.specs.declared.draft.NetDraft.{NetDraft}
-use Rattle.loom_project.specs.Project.{net_topology, topology_of, cavities_of}
+use Rattle.loom_project.specs.Project.{net_topology, cavities_of}
 use Rattle.loom_topology.specs.Reach.{IsReached}
 use Rattle.loom_topology.specs.Topology.{TopologyView, node_of}
 use Rattle.loom_top.specs.declared.way.Way.{Way}
 use Rattle.loom_top.specs.Plannable.{IsJoined, IsJoinedEach, has_one_pair_at_most}
-
-cavity_count : (draft : Draft) (net : ℕ) → length (net_topology draft net).cavities ≡ length draft.cavities
-unfolding net_topology topology_of
-cavity_count draft net = length-map draft.cavities _
-
--- the draft's cavities are those of a net's topology
-pub in_topology : (draft : Draft) (net cavity : ℕ) (topology : TopologyView) → topology ≡ net_topology draft net → cavity < length draft.cavities
-    → cavity < length topology.cavities
-in_topology draft net cavity topology e within =
-    let count : length topology.cavities ≡ length draft.cavities = ap (λ (t : TopologyView). length t.cavities) e ∙ cavity_count draft net in
-    omega (arith, count, within)
 
 few_nets : (nets : List NetDraft) → has_one_pair_at_most nets ≡ true → length nets < 2
 few_nets [] h = omega arith

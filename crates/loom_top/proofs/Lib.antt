@@ -1,14 +1,15 @@
 pub mod Documents
 pub mod InRange
 pub mod Listed
-pub mod NodesBelow
 pub mod PairJoins
 pub mod PairNeeds
+pub mod PairRoute
 pub mod PairTable
 pub mod PairWire
+pub mod Planned
 pub mod RightPair
 pub mod RightPlans
-pub mod SoundCavities
+pub mod RunsAlone
 pub mod Steps
 pub mod Walk
 pub mod Written

@@ -2,18 +2,18 @@
 use Rattle.std.proofs.Common.{◌≡◌, ◌≢◌, ◌⊎◌, ◌↔◌, ℕ, zero, suc, List, [], ◌∷◌, inl, inr, refl, sym, ◌∙◌, ap, subst, arith}
 use Rattle.std.specs.List.{Contains}
 use Rattle.loom_types.specs.declared.wire.Wire.{Wire}
-use Rattle.loom_types.specs.Joined.{Place, AtCavity, AtSide, start_of, finish_of, EndsAt, Linked, along, back, across, Chain, here, next, AreJoined, JoinNeeds}
+use Rattle.loom_types.specs.Joined.{HarnessEnd, AtCavity, AtSide, start_of, finish_of, EndsAt, Linked, along, back, across, across_back, Chain, here, next, AreJoined, JoinNeeds}
 
 -- an element of a list of one is it
-only : {A : Type 0} (x y : A) → Contains (x ∷ []) y → x ≡ y
+pub only : {A : Type 0} (x y : A) → Contains (x ∷ []) y → x ≡ y
 only x y (zero, below, e) = e
 only x y (suc k, below, e) = absurd (omega (arith, below))
 
-none_of : {A : Type 0} (x : A) → Contains [] x → ⊥
+pub none_of : {A : Type 0} (x : A) → Contains [] x → ⊥
 none_of x (k, below, e) = absurd (omega (arith, below))
 
--- the place is one of two cavities
-abbrev IsEither : ℕ → ℕ → Place → Type 0
+-- the end is one of two cavities
+abbrev IsEither : ℕ → ℕ → HarnessEnd → Type 0
 IsEither c d p = (p ≡ AtCavity c) ⊎ (p ≡ AtCavity d)
 
 either_number : (c d x : ℕ) → IsEither c d (AtCavity x) → (x ≡ c) ⊎ (x ≡ d)
@@ -21,12 +21,13 @@ either_number c d x (inl e) = inl (cc)
 either_number c d x (inr e) = inr (cc)
 
 -- without wires nothing is linked
-no_link : (p q : Place) → Linked [] p q → ⊥
+no_link : (p q : HarnessEnd) → Linked [] p q → ⊥
 no_link p q (along w listed) = none_of w listed
 no_link p q (back w listed) = none_of w listed
-no_link p q (across coupler pin s t apart (w, listed, e) at_t) = none_of w listed
+no_link p q (across coupler pin (w, listed, e) other) = none_of w listed
+no_link p q (across_back coupler pin (w, listed, e) other) = none_of w listed
 
-joined_by_none : (p q : Place) → Chain (Linked []) p q → p ≡ q
+joined_by_none : (p q : HarnessEnd) → Chain (Linked []) p q → p ≡ q
 joined_by_none p q here = refl
 joined_by_none p q (next {q = r} link rest) = absurd (no_link p r link)
 
@@ -46,19 +47,20 @@ module _ (w : Wire) (c d : ℕ) (start : start_of w ≡ AtCavity c) (finish : fi
       let f : AtCavity d ≡ AtSide coupler pin side = sym finish ∙ ap finish_of (only w v listed) ∙ e in cc
 
   -- so it links its two cavities alone
-  link_ends : (p q : Place) → Linked (w ∷ []) p q → IsEither c d p × IsEither c d q
+  link_ends : (p q : HarnessEnd) → Linked (w ∷ []) p q → IsEither c d p × IsEither c d q
   link_ends p q (along v listed) =
       let same : v ≡ w = sym (only w v listed) in (inl (ap start_of same ∙ start), inr (ap finish_of same ∙ finish))
   link_ends p q (back v listed) =
       let same : v ≡ w = sym (only w v listed) in (inr (ap finish_of same ∙ finish), inl (ap start_of same ∙ start))
-  link_ends p q (across coupler pin s t apart at_s at_t) = absurd (no_side coupler pin s at_s)
+  link_ends p q (across coupler pin one other) = absurd (no_side coupler pin 1 one)
+  link_ends p q (across_back coupler pin one other) = absurd (no_side coupler pin 1 one)
 
   -- and a chain that begins at one of them ends at one of them
-  chain_ends : (p q : Place) → IsEither c d p → Chain (Linked (w ∷ [])) p q → IsEither c d q
+  chain_ends : (p q : HarnessEnd) → IsEither c d p → Chain (Linked (w ∷ [])) p q → IsEither c d q
   chain_ends p q from here = from
   chain_ends p q from (next {q = r} link rest) = chain_ends r q (link_ends p r link).1 rest
 
-  both_ends : (p q : Place) → Chain (Linked (w ∷ [])) p q → (p ≡ q) ⊎ (IsEither c d p × IsEither c d q)
+  both_ends : (p q : HarnessEnd) → Chain (Linked (w ∷ [])) p q → (p ≡ q) ⊎ (IsEither c d p × IsEither c d q)
   both_ends p q here = inl refl
   both_ends p q (next {q = r} link rest) =
       let ends = link_ends p r link in inr (ends.0, chain_ends r q ends.1 rest)
@@ -73,10 +75,10 @@ module _ (w : Wire) (c d : ℕ) (start : start_of w ≡ AtCavity c) (finish : fi
   linked_ends : AreJoined (w ∷ []) c d × AreJoined (w ∷ []) d c
   linked_ends =
       let listed : Contains (w ∷ []) w = (0, omega arith, refl) in (
-        subst (λ (p : Place). Chain (Linked (w ∷ [])) p (AtCavity d)) start
-            (subst (λ (p : Place). Chain (Linked (w ∷ [])) (start_of w) p) finish (next (along w listed) here)),
-        subst (λ (p : Place). Chain (Linked (w ∷ [])) p (AtCavity c)) finish
-            (subst (λ (p : Place). Chain (Linked (w ∷ [])) (finish_of w) p) start (next (back w listed) here)),
+        subst (λ (p : HarnessEnd). Chain (Linked (w ∷ [])) p (AtCavity d)) start
+            (subst (λ (p : HarnessEnd). Chain (Linked (w ∷ [])) (start_of w) p) finish (next (along w listed) here)),
+        subst (λ (p : HarnessEnd). Chain (Linked (w ∷ [])) p (AtCavity c)) finish
+            (subst (λ (p : HarnessEnd). Chain (Linked (w ∷ [])) (finish_of w) p) start (next (back w listed) here)),
       )
 
   ends_joined : (x y : ℕ) → x ≢ y → (x ≡ c) ⊎ (x ≡ d) → (y ≡ c) ⊎ (y ≡ d) → AreJoined (w ∷ []) x y

@@ -12,7 +12,7 @@ use Rattle.loom_formula.specs.Formula.{holds_step, holds_of, is_chosen}
 use Rattle.loom_project.specs.declared.draft.Draft.{Draft}
 use Rattle.loom_project.specs.declared.draft.NetDraft.{NetDraft}
 use Rattle.loom_project.specs.declared.draft.TerminalDraft.{TerminalDraft}
-use Rattle.loom_project.specs.Draft.{cavity_names, place_of}
+use Rattle.loom_project.specs.Draft.{cavity_names, index_of}
 use Rattle.loom_project.specs.Project.{net_at, no_net, cavities_of, terminal_places}
 use Rattle.loom_active.specs.Needs.{need_of}
 use Rattle.loom_top.specs.Plannable.{always_step, is_always, is_pair}
@@ -71,7 +71,7 @@ module _ (draft : Draft) (net : NetDraft) (one : draft.nets ≡ net ∷ []) wher
     two_cavities =
         let count : length net.terminals ≡ 2 = eqb-true (length net.terminals) 2 (and_parts (length net.terminals == 2) _ pair).0 in
         two (cavities_of draft 0)
-        (length-map (net_at draft 0).terminals (λ terminal. place_of (cavity_names draft.cavities) terminal.cavity)
+        (length-map (net_at draft 0).terminals (λ terminal. index_of (cavity_names draft.cavities) terminal.cavity)
         ∙ ap (λ (n : NetDraft). length n.terminals) the_net ∙ count)
 
     -- it needs both under every choice

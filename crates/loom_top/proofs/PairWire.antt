@@ -1,17 +1,19 @@
 -- The one wire of a pair: it is live, it joins both cavities alone, and it costs its length.
 use Rattle.std.proofs.Common.{◌≡◌, ◌⊎◌, ◌↔◌, ℕ, zero, suc, ◌+◌, ◌==◌, ◌||◌, Bool, true, false, cond, List, [], ◌∷◌, reverse, inl, inr, refl, sym, ap, subst, arith}
 use Rattle.std.specs.Prelude.{nat_lt, filter, if◌then◌else◌, sum_by}
+use Rattle.std.proofs.lemmas.Bool.{ne_eqb}
 use Rattle.loom_base.specs.declared.positions.SegmentNo.{SegmentNo}
 use Rattle.loom_topology.specs.Topology.{TopologyView}
 use Rattle.loom_types.specs.declared.wire.Wire.{Wire}
 use Rattle.loom_types.specs.Joined.{live_of, JoinNeeds}
+use Rattle.loom_types.specs.Slots.{EndsAtPin}
 use Rattle.loom_types.specs.WireCost.{CavityPoint, point_cost, wires_cost}
 use Rattle.std.specs.List.{Contains}
 use Rattle.loom_top.proofs.PairJoins.{joins_both}
 use Rattle.loom_top.specs.PairPlan.{wire_between, wire_of_pair}
 
 -- what holds of the wire in both directions holds of the wire of the pair
-of_pair : (P : Wire → Type 0) (a b : ℕ) (route : List SegmentNo) (cost row : ℕ) → P (wire_between a b route cost row)
+pub of_pair : (P : Wire → Type 0) (a b : ℕ) (route : List SegmentNo) (cost row : ℕ) → P (wire_between a b route cost row)
     → P (wire_between b a (reverse route) cost row) → P (wire_of_pair a b route cost row)
 of_pair P a b route cost row there back =
     elim (nat_lt a b) as (λ (t : Bool). P (if t then wire_between a b route cost row else wire_between b a (reverse route) cost row))
@@ -43,6 +45,27 @@ is_live value a b route cost row holds =
 pub of_first_net : (a b : ℕ) (route : List SegmentNo) (cost row : ℕ)
     → filter (λ w. w.net.0 == 0) (wire_of_pair a b route cost row ∷ []) ≡ wire_of_pair a b route cost row ∷ []
 of_first_net a b route cost row = of_pair (λ w. filter (λ x. x.net.0 == 0) (w ∷ []) ≡ w ∷ []) a b route cost row refl refl
+
+-- and of no other
+between_no_other : (c d : ℕ) (route : List SegmentNo) (cost row n : ℕ) → filter (λ w. w.net.0 == suc n) (wire_between c d route cost row ∷ []) ≡ []
+between_no_other c d route cost row n =
+    ap (λ (t : Bool). cond t (wire_between c d route cost row ∷ []) []) (ne_eqb 0 (suc n) (λ e. let f : 0 ≡ suc n = e in absurd (omega (arith, f))))
+
+pub of_no_other_net : (a b : ℕ) (route : List SegmentNo) (cost row n : ℕ)
+    → filter (λ w. w.net.0 == suc n) (wire_of_pair a b route cost row ∷ []) ≡ []
+of_no_other_net a b route cost row n =
+    of_pair (λ w. filter (λ x. x.net.0 == suc n) (w ∷ []) ≡ []) a b route cost row (between_no_other a b route cost row n)
+    (between_no_other b a (reverse route) cost row n)
+
+-- it ends at no pin
+between_no_pin : (c d : ℕ) (route : List SegmentNo) (cost row coupler pin : ℕ) → EndsAtPin (wire_between c d route cost row) coupler pin → ⊥
+between_no_pin c d route cost row coupler pin (side, inl e) = absurd (cc)
+between_no_pin c d route cost row coupler pin (side, inr e) = absurd (cc)
+
+pub no_pin_of_pair : (a b : ℕ) (route : List SegmentNo) (cost row coupler pin : ℕ) → EndsAtPin (wire_of_pair a b route cost row) coupler pin → ⊥
+no_pin_of_pair a b route cost row =
+    of_pair (λ w. (coupler pin : ℕ) → EndsAtPin w coupler pin → ⊥) a b route cost row (between_no_pin a b route cost row)
+    (between_no_pin b a (reverse route) cost row)
 
 -- one of two numbers
 one_of_two : (a b x : ℕ) → Contains (a ∷ b ∷ []) x → (x ≡ a) ⊎ (x ≡ b)

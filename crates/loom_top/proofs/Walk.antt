@@ -26,7 +26,7 @@ no_one : (topology : TopologyView) (a b v i : ℕ) → v ≢ node_of topology b 
 no_one topology a b v zero away one = away (sym one.2)
 no_one topology a b v (suc i) away one = absurd (let h : suc i + 1 < 2 = one.0 in omega (arith, h))
 
-both_in_range : (n a b : ℕ) → a < n → b < n → All (λ c. c < n) (a ∷ b ∷ [])
+pub both_in_range : (n a b : ℕ) → a < n → b < n → All (λ c. c < n) (a ∷ b ∷ [])
 both_in_range n a b a_in b_in zero d h = a_in
 both_in_range n a b a_in b_in (suc zero) d h = b_in
 both_in_range n a b a_in b_in (suc (suc k)) d h = absurd (omega (arith, h))
@@ -84,7 +84,7 @@ pub alike : (a b : ℕ) → not (eqb a b) ≡ false → a ≡ b
 alike a b h = elim (cases_eq a b) [ inl e ↦ e | inr n ↦ absurd (let t : eqb a b ≡ false = ne_eqb a b n in let f : not false ≡ false = subst (λ (x : Bool). not x ≡ false) t h in cc) ]
 
 -- the route is far shorter than a u32 counts
-pub few_steps : (n cost len : ℕ) → n ≤ 1024 → len ≤ cost → cost + (n + 1) * 1000000 ≤ 2 * 1 * ((n + 1) * 1000000) → len < 2 ^ 32
+pub few_steps : (n cost len : ℕ) → n ≤ 1024 → len ≤ cost → cost ≤ 1000000 * n → len < 2 ^ 32
 few_steps n cost len few short small = omega (arith, few, short, small)
 
 one_reached : (topology : TopologyView) (b v : ℕ) → IsReached topology v (node_of topology b) → AreReached topology (b ∷ []) v

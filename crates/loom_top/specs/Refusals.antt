@@ -20,7 +20,8 @@ IsCause NoChoice = Unit {0}
 abbrev pub refusal_object : Refusal → Data
 refusal_object TooLong = object (of_kind (codes "TooLong"))
 refusal_object NotJson = object (of_kind (codes "NotJson"))
-refusal_object (WrongShape path) = object (put (codes "path") (string path) (of_kind (codes "WrongShape")))
+refusal_object (WrongShape path) =
+    object (put (codes "path") (string path) (of_kind (codes "WrongShape")))
 refusal_object (Project fault) = fault_shown fault
 refusal_object NotBuilt = object (of_kind (codes "NotBuilt"))
 refusal_object (Limit which count) = limit_shown which count

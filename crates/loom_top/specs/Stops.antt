@@ -1,18 +1,19 @@
 use Rattle.loom_active.specs.declared.stop.ActiveStop.{ActiveStop}
 use Rattle.loom_active.specs.declared.stop.ActiveStop.TheVariants as active
-use Rattle.loom_project.specs.declared.draft.Draft.{Draft}
-use Rattle.loom_top.specs.Replies.{HasNoPlan}
-use Rattle.loom_top.specs.declared.refusal.Refusal.TheVariants.{NoChoice, Limit}
+use Rattle.loom_reader.specs.declared.document.Document.{Document}
+use Rattle.loom_top.specs.Replies.{IsRefused}
+use Rattle.loom_top.specs.declared.refusal.Refusal.TheVariants.{NoChoice, Limit, NotBuilt}
 use Rattle.loom_top.specs.declared.stop.Stop.{Stop}
 use Rattle.loom_top.specs.declared.stop.Stop.TheVariants.{Refused, NoMemory}
 
--- the refusal that rules make
-abbrev pub stop_of : ActiveStop → Stop
-stop_of active.NoChoice = Refused NoChoice
-stop_of (active.Limit which count) = Refused (Limit which count)
-stop_of active.NoMemory = NoMemory
+-- the refusal that rules make; they make no clash
+abbrev pub stop_by_rules : ActiveStop → Stop
+stop_by_rules active.NoChoice = Refused NoChoice
+stop_by_rules (active.Clash cavity first second choice) = Refused NotBuilt
+stop_by_rules (active.Limit which count) = Refused (Limit which count)
+stop_by_rules active.NoMemory = NoMemory
 
--- a project stops its planning so; memory may run out at any time
-abbrev pub StopsPlan : Draft → Stop → Type 0
-StopsPlan draft (Refused refusal) = HasNoPlan draft refusal
-StopsPlan draft NoMemory = Unit {0}
+-- the planning of a document stops so; memory may run out at any time
+abbrev pub StopsPlan : Document → Stop → Type 0
+StopsPlan document (Refused refusal) = IsRefused document refusal
+StopsPlan document NoMemory = Unit {0}

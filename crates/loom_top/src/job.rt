@@ -3,7 +3,6 @@ ghost use Rattle.std.specs.Prelude.{◌≡◌, ◌≢◌, ◌≤◌, ◌↔◌, 
 ghost use Rattle.std.specs.Io.KnownBytes.{Appends, IsAtEnd};
 ghost use Rattle.loom_base.specs.Causes.{Rose};
 ghost use Rattle.loom_base.specs.Streams.{AppendsPart, TakesAtMost};
-ghost use Rattle.loom_project.specs.declared.draft.Draft.{Draft};
 ghost use Rattle.loom_top.specs.Replies.{Accepts, IsReply};
 ghost use Rattle.loom_top.specs.Run.{AskForPlan, WritesPlan, WritesRefusal, WritesPart, IsSilent, IsDoneOrNoMemory};
 
@@ -24,7 +23,8 @@ fn is_plan(words: &[String]) -> bool
 
 /// The reply to all that is left in a source.
 fn replied<S: Source>(alloc: Global, source: &mut S) -> Result<Reply, ReadStop>
-    ensures reply { IfOk result (λ reply. IfSome (S.left source.old) (λ input. IsReply input reply.is_done reply.line)) }
+    ensures reply { IfOk result (λ reply. IfSome (S.left source.old)
+        (λ input. IsReply input reply.is_done reply.line)) }
     ensures at_end { IfOk result (λ reply. reply.is_done ≡ true → IsAtEnd (S.left source.new)) }
     ensures fault { result ≡ Err ReadStop.Fault → Rose (S.faults source.old) (S.faults source.new) }
     ensures short { result ≢ Err ReadStop.TooLong }
@@ -40,10 +40,12 @@ fn replied<S: Source>(alloc: Global, source: &mut S) -> Result<Reply, ReadStop>
 
 /// Writes the line of a reply.
 fn written<K: Sink>(sink: &mut K, reply: &Reply) -> Status
-    ensures done { result ≡ Status.Done → (reply.now.is_done ≡ true) × Appends (K.held sink.old) (K.held sink.new) reply.now.line }
-    ensures refused { result ≡ Status.Refused → (reply.now.is_done ≡ false) × Appends (K.held sink.old) (K.held sink.new) reply.now.line }
-    ensures fault { result ≡ Status.WriteFault
-        → Rose (K.faults sink.old) (K.faults sink.new) × AppendsPart (K.held sink.old) (K.held sink.new) reply.now.line }
+    ensures done { result ≡ Status.Done → (reply.now.is_done ≡ true)
+        × Appends (K.held sink.old) (K.held sink.new) reply.now.line }
+    ensures refused { result ≡ Status.Refused → (reply.now.is_done ≡ false)
+        × Appends (K.held sink.old) (K.held sink.new) reply.now.line }
+    ensures fault { result ≡ Status.WriteFault → Rose (K.faults sink.old) (K.faults sink.new)
+        × AppendsPart (K.held sink.old) (K.held sink.new) reply.now.line }
     ensures loud { IsSilent result → ⊥ }
     ensures later { K.faults sink.old ≤ K.faults sink.new }
 {
@@ -55,33 +57,40 @@ fn written<K: Sink>(sink: &mut K, reply: &Reply) -> Status
 }
 
 /// Does the job that the words name: under the one word `plan` it reads a document from the source
-/// and writes one line to the sink, the answer with a plan of the document's project or the refusal.
+/// and writes one line to the sink, the answer with a plan of the document's project or the
+/// refusal.
 ///
 /// The line is made whole before the first write. `Usage` comes exactly where the words aren't that
-/// word, `ReadFault` and `WriteFault` only where the count of faults of the source or the sink rose.
-/// A document that is planned today, and whose rules allow a choice within the limit on rows, is
-/// `Done` where no count rose, unless memory ran out. At most 67,108,865 bytes are taken.
+/// word, `ReadFault` and `WriteFault` only where the count of faults of the source or the sink
+/// rose. A document that is planned today, and whose rules allow a choice within the limit on rows,
+/// is `Done` where no count rose, unless memory ran out. At most 67,108,865 bytes are taken.
 pub fn run<S: Source, K: Sink>(
     alloc: Global,
     words: &[String],
     source: &mut S,
     sink: &mut K,
 ) -> Status
-    ensures usage { result ≡ Status.Usage ↔ ¬ AskForPlan (map string_bytes words.now) }
-    ensures done { result ≡ Status.Done → IfSome (S.left source.old) (λ input. WritesPlan input (K.held sink.old) (K.held sink.new)) }
+    ensures usage { result ≡ Status.Usage → ¬ AskForPlan (map string_bytes words.now) }
+    ensures asked { result ≢ Status.Usage → AskForPlan (map string_bytes words.now) }
+    ensures done { result ≡ Status.Done → IfSome (S.left source.old)
+        (λ input. WritesPlan input (K.held sink.old) (K.held sink.new)) }
     ensures at_end { result ≡ Status.Done → IsAtEnd (S.left source.new) }
-    ensures refused { result ≡ Status.Refused → IfSome (S.left source.old) (λ input. WritesRefusal input (K.held sink.old) (K.held sink.new)) }
-    ensures read_fault { result ≡ Status.ReadFault → Rose (S.faults source.old) (S.faults source.new) }
-    ensures write_fault { result ≡ Status.WriteFault
-        → Rose (K.faults sink.old) (K.faults sink.new) × WritesPart (S.left source.old) (K.held sink.old) (K.held sink.new) }
+    ensures refused { result ≡ Status.Refused → IfSome (S.left source.old)
+        (λ input. WritesRefusal input (K.held sink.old) (K.held sink.new)) }
+    ensures read_fault { result ≡ Status.ReadFault
+        → Rose (S.faults source.old) (S.faults source.new) }
+    ensures write_fault { result ≡ Status.WriteFault → Rose (K.faults sink.old) (K.faults sink.new)
+        × WritesPart (S.left source.old) (K.held sink.old) (K.held sink.new) }
     ensures unread { result ≡ Status.Usage → source.new ≡ source.old }
-    ensures at_most { AskForPlan (map string_bytes words.now) → TakesAtMost (S.left source.old) (S.left source.new) 67108865 }
+    ensures at_most { AskForPlan (map string_bytes words.now)
+        → TakesAtMost (S.left source.old) (S.left source.new) 67108865 }
     ensures unwritten { IsSilent result → sink.new ≡ sink.old }
     ensures source_later { S.faults source.old ≤ S.faults source.new }
     ensures sink_later { K.faults sink.old ≤ K.faults sink.new }
-    ensures complete { (input : List ℕ) (draft : Draft) → AskForPlan (map string_bytes words.now) → S.left source.old ≡ Some input → Accepts input draft
-        → ¬ Rose (S.faults source.old) (S.faults source.new) → ¬ Rose (K.faults sink.old) (K.faults sink.new)
-        → IsDoneOrNoMemory result }
+    ensures complete { (input : List ℕ) → AskForPlan (map string_bytes words.now)
+        → S.left source.old ≡ Some input → Accepts input
+        → ¬ Rose (S.faults source.old) (S.faults source.new)
+        → ¬ Rose (K.faults sink.old) (K.faults sink.new) → IsDoneOrNoMemory result }
 {
     if !is_plan(words) {
         return Status::Usage;

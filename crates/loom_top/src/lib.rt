@@ -13,5 +13,4 @@ mod stop;
 mod way;
 
 pub use job::run;
-pub use refusal::Refusal;
 pub use status::Status;

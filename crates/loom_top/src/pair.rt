@@ -98,7 +98,9 @@ fn module(alloc: Global, harness: u32, row: u32) -> Result<Module, NoMemory>
 /// printed condition: a set with its layout, the table of least costs, a wire and its module.
 pub fn plan_along(alloc: Global, way: Way, needed: ValidRows) -> Result<Plan, NoMemory>
     requires { length way.route < 2 ^ 32 }
-    ensures { IfOk result (λ plan. plan ≡ pair_plan way.from.0 way.to.0 way.table way.route way.cost way.harness needed.rows needed.row) }
+    ensures { IfOk result (λ plan. plan
+        ≡ pair_plan way.from.0 way.to.0 way.table way.route way.cost way.harness
+        needed.rows needed.row) }
 {
     let ValidRows { rows, row } = needed;
     let Way {

@@ -1,8 +1,7 @@
 //! Whether a document is of a form that is planned today.
-ghost use Rattle.std.specs.Prelude.{◌≡◌, not};
+ghost use Rattle.std.specs.Prelude.{◌≡◌};
 ghost use Rattle.std.specs.List.{list_all};
-ghost use Rattle.loom_topology.specs.Topology.{is_coupler};
-ghost use Rattle.loom_top.specs.Plannable.{is_always, is_pair, has_one_pair_at_most, is_plain};
+ghost use Rattle.loom_top.specs.Plannable.{is_always, is_pair, are_runs, has_one_pair_at_most, is_plain};
 
 use loom_formula::Formula;
 use loom_project::{NetDraft, SegmentDraft, TerminalDraft};
@@ -46,7 +45,7 @@ fn has_pair_at_most(nets: &[NetDraft]) -> bool
 
 /// Whether none of the segments is a coupler.
 fn are_runs(segments: &[SegmentDraft]) -> bool
-    ensures { result ≡ list_all (λ segment. not (is_coupler segment.kind)) segments.now }
+    ensures { result ≡ are_runs segments.now }
 {
     segments.iter().all(|segment| !segment.kind.is_coupler())
 }

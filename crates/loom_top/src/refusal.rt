@@ -43,7 +43,8 @@ fn kind_alone(alloc: Global, kind: &str) -> Result<Value, NoMemory>
 
 /// The object of a place that isn't of its form.
 fn wrong_shape(alloc: Global, path: &Path) -> Result<Value, NoMemory>
-    ensures { IfOk result (λ value. view value ≡ object (put (codes "path") (string path.now) (of_kind (codes "WrongShape")))) }
+    ensures { IfOk result (λ value. view value
+        ≡ object (put (codes "path") (string path.now) (of_kind (codes "WrongShape")))) }
 {
     let kind = text(alloc, "WrongShape")?;
     let path = text(alloc, path.as_str())?;

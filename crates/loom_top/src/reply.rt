@@ -1,13 +1,13 @@
 //! The line that answers a document.
-ghost use Rattle.std.specs.Prelude.{◌≡◌, ◌≤◌, false, IfOk, length};
+ghost use Rattle.std.specs.Prelude.{◌≡◌, ◌≤◌, ℕ, List, false, IfOk, length};
 ghost use Rattle.loom_json.specs.Text.{line_of};
 ghost use Rattle.loom_answer.specs.Answer.{answer_of};
 ghost use Rattle.loom_top.specs.Refusals.{IsCause, refusal_shown};
-ghost use Rattle.loom_top.specs.Replies.{IsReply, RepliesTo};
+ghost use Rattle.loom_top.specs.Replies.{IsRead, IsReply};
 
-use crate::Refusal;
 use crate::plannable::has_plain_form;
 use crate::planning::plan_of;
+use crate::refusal::Refusal;
 use crate::stop::Stop;
 use loom_answer::answer;
 use loom_base::{List, NoMemory};
@@ -27,7 +27,8 @@ pub struct Reply {
 /// The reply that refuses a document.
 fn refused(alloc: Global, refusal: &Refusal) -> Result<Reply, NoMemory>
     requires { IsCause refusal.now }
-    ensures { IfOk result (λ reply. (reply.is_done ≡ false) × (reply.line ≡ line_of (refusal_shown refusal.now))) }
+    ensures not_done { IfOk result (λ reply. reply.is_done ≡ false) }
+    ensures line { IfOk result (λ reply. reply.line ≡ line_of (refusal_shown refusal.now)) }
 {
     Ok(Reply {
         is_done: false,
@@ -45,12 +46,13 @@ fn plan_line(alloc: Global, plan: &Plan, project: &Project) -> Result<List<u8>, 
 
 /// The reply to a document that was read.
 fn answered(alloc: Global, document: &Document) -> Result<Reply, NoMemory>
-    ensures { IfOk result (λ reply. RepliesTo document.now reply.is_done reply.line) }
+    ensures { IfOk result (λ reply. (input : List ℕ) → IsRead input document.now
+        → IsReply input reply.is_done reply.line) }
 {
     if !has_plain_form(document) {
         return refused(alloc, &Refusal::NotBuilt);
     }
-    match plan_of(alloc, &document.project) {
+    match plan_of(alloc, document) {
         Ok(plan) => Ok(Reply {
             is_done: true,
             line: plan_line(alloc, &plan, &document.project)?,
@@ -76,7 +78,8 @@ pub fn reply_to(alloc: Global, input: &[u8]) -> Result<Reply, NoMemory>
 
 /// The reply to an input that is too long.
 pub fn too_long(alloc: Global) -> Result<Reply, NoMemory>
-    ensures { IfOk result (λ reply. (reply.is_done ≡ false) × (reply.line ≡ line_of (refusal_shown Refusal.TooLong))) }
+    ensures not_done { IfOk result (λ reply. reply.is_done ≡ false) }
+    ensures line { IfOk result (λ reply. reply.line ≡ line_of (refusal_shown Refusal.TooLong)) }
 {
     refused(alloc, &Refusal::TooLong)
 }

@@ -37,7 +37,8 @@ fn step_over(
     requires opens { is_open_to (segment_at topology.now segment.0) node.0 ≡ true }
     ensures { MatchOption result
         ((u : ℕ) → StepsTo topology.now (cell_at table.now) 1 node.0 segment.0 u → ⊥)
-        (λ step. (step.segment ≡ segment) × StepsTo topology.now (cell_at table.now) 1 node.0 segment.0 step.node.0) }
+        (λ step. (step.segment ≡ segment)
+        × StepsTo topology.now (cell_at table.now) 1 node.0 segment.0 step.node.0) }
 {
     let next = topology.other_end(segment, node)?;
     let rest = table.cell(CAVITY, next)?;
@@ -60,7 +61,8 @@ fn lowest_step(topology: &Topology, table: &Table, node: NodeNo, cost: u64) -> O
     requires cost { cell_at table.now 1 node.0 ≡ Some cost }
     ensures { MatchOption result
         ((s u : ℕ) → StepsTo topology.now (cell_at table.now) 1 node.0 s u → ⊥)
-        (λ step. IsLowestStep topology.now (cell_at table.now) 1 node.0 step.segment.0 step.node.0) }
+        (λ step. IsLowestStep topology.now (cell_at table.now) 1 node.0 step.segment.0
+        step.node.0) }
 {
     for &segment in topology.segments_at(node) {
         if let Some(step) = step_over(topology, table, node, cost, segment) {
@@ -85,7 +87,8 @@ pub fn route(
     requires b_in_range { b.0 < length topology.now.cavities }
     requires least { IsLeastTable topology.now (a.0 ∷ b.0 ∷ []) table.now }
     requires cost { cell_at table.now 1 (node_of topology.now a.0) ≡ Some cost }
-    ensures route { IfOk result (IsRoute topology.now (cell_at table.now) (node_of topology.now b.0) (node_of topology.now a.0)) }
+    ensures route { IfOk result (IsRoute topology.now (cell_at table.now) (node_of topology.now b.0)
+        (node_of topology.now a.0)) }
     ensures short { IfOk result (λ route. length route ≤ cost) }
 {
     let target = topology.cavity_node(b);

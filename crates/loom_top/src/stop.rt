@@ -1,4 +1,4 @@
-use crate::Refusal;
+use crate::refusal::Refusal;
 use loom_active::ActiveStop;
 use loom_base::NoMemory;
 
@@ -24,13 +24,15 @@ impl From<NoMemory> for Stop {
 
 impl From<ActiveStop> for Stop {
     ghost use Rattle.std.specs.Prelude.{◌≡◌};
-    ghost use Rattle.loom_top.specs.Stops.{stop_of};
+    ghost use Rattle.loom_top.specs.Stops.{stop_by_rules};
 
-    ghost from_gives = { λ cause stop. stop ≡ stop_of cause };
+    ghost from_gives = { λ cause stop. stop ≡ stop_by_rules cause };
 
     fn from(cause: ActiveStop) -> Stop {
         match cause {
             ActiveStop::NoChoice => Stop::Refused(Refusal::NoChoice),
+            // Rules alone make no clash, and several nets aren't planned yet.
+            ActiveStop::Clash { .. } => Stop::Refused(Refusal::NotBuilt),
             ActiveStop::Limit { which, count } => Stop::Refused(Refusal::Limit { which, count }),
             ActiveStop::NoMemory => Stop::NoMemory,
         }

@@ -34,7 +34,8 @@ pub fn least_way(
     requires a_in_range { a.0 < length topology.now.cavities }
     requires b_in_range { b.0 < length topology.now.cavities }
     ensures way { IfOk result (λ way. IfSome way (IsWay topology.now a.0 b.0)) }
-    ensures joined { IfOk result (λ way. IfSome way (λ w. IsReached topology.now (node_of topology.now a.0) (node_of topology.now b.0))) }
+    ensures joined { IfOk result (λ way. IfSome way
+        (λ w. IsReached topology.now (node_of topology.now a.0) (node_of topology.now b.0))) }
     ensures apart { IfOk result (λ way. way ≡ None
         → IsReached topology.now (node_of topology.now a.0) (node_of topology.now b.0) → ⊥) }
 {

@@ -4,9 +4,9 @@ use Rattle.loom_top.proofs.Written.{done_writes, refused_writes}
 use Rattle.loom_top.proofs.job.run.Goals as goal
 
 pub returns-in-Ok-clause-complete : goal.returns-in-Ok-clause-complete
-returns-in-Ok-clause-complete g c = λ input draft words left accepted read wrote.
+returns-in-Ok-clause-complete g c = λ input words left accepted read wrote.
     inl (done_of c.written.result c.written.ensures.loud
-    (λ h. reply_accepts _ input c.in-Ok.reply.line draft c.in-Ok.reply.is_done left accepted (c.written.ensures.refused h).0 c.in-Ok.ensures.reply)
+    (λ h. reply_accepts _ input c.in-Ok.reply.line c.in-Ok.reply.is_done left accepted (c.written.ensures.refused h).0 c.in-Ok.ensures.reply)
     (λ h. wrote (c.written.ensures.fault h).0))
 
 pub returns-in-Ok-clause-done : goal.returns-in-Ok-clause-done

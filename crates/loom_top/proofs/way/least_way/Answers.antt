@@ -2,7 +2,8 @@ use Rattle.std.proofs.Common.{ℕ, ◌≡◌, [], ◌∷◌, Some, length, refl,
 use Rattle.loom_topology.specs.Legal.{IsMask}
 use Rattle.loom_topology.specs.Table.{TableView, cell_at, IsWhole}
 use Rattle.loom_topology.specs.Topology.{node_of, harness_at}
-use Rattle.loom_top.proofs.Walk.{few_steps, has_cost, reached_of_cost}
+use Rattle.loom_topology.proofs.ShortWays.{least_ways_are_short}
+use Rattle.loom_top.proofs.Walk.{both_in_range, few_steps, has_cost, reached_of_cost}
 use Rattle.loom_top.proofs.way.least_way.Goals as goal
 
 pub returns-in_ok-route-in-Some-clause-way : goal.returns-in_ok-route-in-Some-clause-way
@@ -20,7 +21,9 @@ returns-in_ok-route-in-Some-clause-way c =
       short =
           few_steps (length c.args.topology.now.nodes) c.in-Some.cost (length c.in_ok-route-in-Some.route)
           c.node_count-nodes.ensures.sound.few_nodes c.in_ok-route-in-Some.ensures.short
-          (c.in_ok-costs.ensures.small 1 c.cavity_node-start.result.0 c.in-Some.cost mask c.cavity_node-start.ensures.in_range (sym c.in-Some.ensures.value));
+          (least_ways_are_short c.args.topology.now (c.args.a.0 ∷ c.args.b.0 ∷ []) (cell_at c.in_ok-costs.costs) 0 c.cavity_node-start.result.0 c.in-Some.cost
+          c.node_count-nodes.ensures.sound (both_in_range (length c.args.topology.now.cavities) c.args.a.0 c.args.b.0 c.requires.a_in_range c.requires.b_in_range)
+          c.in_ok-costs.ensures.least (lit< tt) c.cavity_node-start.ensures.in_range (sym c.in-Some.ensures.value));
     }
 
 pub returns-in-None-clause-apart : goal.returns-in-None-clause-apart
