@@ -1,0 +1,38 @@
+#!/bin/sh
+# The program ends with the statuses of docs/format.md, and writes what they promise. It is run as it is built, on real
+# input and output: whole documents, half a document, a closed input, a full output, and with too little memory.
+top=$(cd "$(dirname "$0")/.." && pwd) || exit 1
+document=$top/examples/one_wire.json
+failed=0
+
+# ends STATUS WHAT COMMAND..: the command has to end with the status
+ends() {
+    wanted=$1
+    what=$2
+    shift 2
+    "$@"
+    status=$?
+    if [ "$status" -ne "$wanted" ]; then
+        echo "statuses: $what ends with $status and not with $wanted"
+        failed=1
+    fi
+}
+
+plan() { "$top/bin/loom" plan 2>/dev/null; }
+plan_whole() { plan < "$document" | cmp -s - "$top/crates/loom/stdout"; }
+plan_document() { plan < "$document" > /dev/null; }
+plan_half() { head -c 100 "$document" | plan > /dev/null; }
+plan_closed() { plan <&- > /dev/null; }
+plan_full() { plan < "$document" > /dev/full; }
+plan_in_little_memory() { (ulimit -v 60000; head -c 67108864 /dev/zero | tr '\0' ' ' | plan > /dev/null); }
+no_word() { "$top/bin/loom" < "$document" > /dev/null 2>&1; }
+
+ends 0 "a whole document" plan_document
+ends 0 "its line, compared with the wanted one," plan_whole
+ends 1 "half a document" plan_half
+ends 2 "a call without a word" no_word
+ends 3 "a closed input" plan_closed
+ends 4 "a full output" plan_full
+ends 5 "a document that memory can't hold" plan_in_little_memory
+[ "$failed" -eq 0 ] && echo "statuses: 0 to 5, as they must be"
+exit "$failed"
