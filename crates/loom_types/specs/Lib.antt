@@ -1,7 +1,12 @@
 pub mod Joined
 pub mod LayoutTree
+pub mod LayoutWires
+pub mod Laws
+pub mod Modules
+pub mod PinLines
 pub mod Routes
 pub mod SetMask
 pub mod Slots
 pub mod WireCost
 pub mod WireOrder
+pub mod WireTree

@@ -1,4 +1,4 @@
-use Rattle.std.specs.Prelude.{ℕ, List, [], ◌∷◌, ◌≡◌, ◌⊎◌, ◌<◌, ◌≤◌, ◌==◌, true, false, IsTrue, length, sum_by, if◌then◌else◌}
+use Rattle.std.specs.Prelude.{ℕ, List, [], ◌∷◌, ◌≡◌, ◌⊎◌, ◌<◌, ◌≤◌, ◌==◌, false, IsTrue, length, sum_by, if◌then◌else◌}
 use Rattle.loom_base.specs.declared.positions.SegmentNo.{SegmentNo}
 use Rattle.loom_topology.specs.Topology.{TopologyView, Leads, segment_at, price_at, node_of, is_coupler}
 use Rattle.loom_types.specs.declared.wire.End.{End}

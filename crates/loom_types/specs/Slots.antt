@@ -1,9 +1,8 @@
-use Rattle.std.specs.Prelude.{ℕ, List, Bool, ◌≡◌, ◌⊎◌, ◌≤◌, ◌==◌, ◌&&◌, nat_le, IsTrue, Contains, count_by}
+use Rattle.std.specs.Prelude.{ℕ, List, Bool, ◌≡◌, ◌⊎◌, ◌==◌, ◌&&◌, nat_le, IsTrue, Contains, count_by}
 use Rattle.loom_topology.specs.Topology.{TopologyView, segment_at, is_coupler}
 use Rattle.loom_types.specs.declared.layout.Layout.{Layout}
 use Rattle.loom_types.specs.declared.plan.SetLine.{SetLine}
 use Rattle.loom_types.specs.declared.plan.PinLine.{PinLine}
-use Rattle.loom_types.specs.declared.wire.End.{End}
 use Rattle.loom_types.specs.declared.wire.End.TheVariants.{Pin}
 use Rattle.loom_types.specs.declared.wire.Wire.{Wire}
 

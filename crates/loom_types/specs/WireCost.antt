@@ -1,4 +1,4 @@
-use Rattle.std.specs.Prelude.{ℕ, List, [], ◌∷◌, Bool, false, ◌+◌, ◌-◌, ◌*◌, ◌==◌, ◌&&◌, sum_by, count_by, map, if◌then◌else◌}
+use Rattle.std.specs.Prelude.{ℕ, List, [], ◌∷◌, Bool, false, ◌+◌, ◌-◌, ◌*◌, ◌==◌, ◌&&◌, sum_by, count_by, if◌then◌else◌}
 use Rattle.std.specs.List.{flat_map, list_any}
 use Rattle.loom_topology.specs.Topology.{TopologyView, branch_at, price_at}
 use Rattle.loom_types.specs.declared.wire.End.{End}
@@ -27,9 +27,9 @@ abbrev pub points_of : List Wire → List Point
 points_of wires = flat_map (λ w. point_of w.from ∷ point_of w.to ∷ []) wires
 
 -- the points, each once
-abbrev pub each_once : List Point → List Point
-each_once [] = []
-each_once (p ∷ ps) = if list_any (is_same_point p) ps then each_once ps else p ∷ each_once ps
+abbrev pub distinct_points : List Point → List Point
+distinct_points [] = []
+distinct_points (p ∷ ps) = if list_any (is_same_point p) ps then distinct_points ps else p ∷ distinct_points ps
 
 -- what a point costs: a pin its coupler's price, a splice the branch cost for each end past the second
 abbrev pub point_cost : TopologyView → List Point → Point → ℕ
@@ -41,4 +41,4 @@ point_cost topology ends (PinPoint coupler pin) = price_at topology coupler
 -- the cost of wires of one net: the sum of their lengths, each pin's coupler once, and each splice
 abbrev pub wires_cost : TopologyView → List Wire → ℕ
 wires_cost topology wires =
-    sum_by (λ w. w.length) wires + sum_by (point_cost topology (points_of wires)) (each_once (points_of wires))
+    sum_by (λ w. w.length) wires + sum_by (point_cost topology (points_of wires)) (distinct_points (points_of wires))

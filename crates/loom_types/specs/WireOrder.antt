@@ -1,4 +1,4 @@
-use Rattle.std.specs.Prelude.{ℕ, List, ◌≡◌}
+use Rattle.std.specs.Prelude.{List, ◌≡◌}
 use Rattle.std.specs.declared.cmp.Ordering.{Ordering}
 use Rattle.std.specs.declared.cmp.Ordering.TheVariants.{Less, Greater}
 use Rattle.std.specs.Ordering.{nat_cmp, ordering_then}
