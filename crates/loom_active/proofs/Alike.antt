@@ -1,10 +1,10 @@
 -- Worked conditions that need the same rows.
-use Rattle.std.proofs.Common.{◌≡◌, ℕ, ◌⊎◌, inl, inr, Bool, false, List, [], ◌∷◌, refl, sym, ap, subst, ◌∙◌, Result, Ok, Err, OnOk, Contains, arith}
+use Rattle.std.proofs.Common.{◌⊎◌, inl, inr, List, [], ◌∷◌, sym, subst, ◌∙◌, Result, Ok, Err, OnOk, Contains, arith}
 use Rattle.loom_base.proofs.Contained.{Contains-here, Contains-cons, Contains-cases}
 use Rattle.loom_rows.specs.declared.stop.RowsStop.{RowsStop}
 use Rattle.loom_rows.specs.Condition.{Meaning}
 use Rattle.loom_rows.specs.Table.{Table}
-use Rattle.loom_rows.specs.Leftovers.{AreSame, IsOpen, IsLeftover, IsLeftoverOf, IsRowOf, AreMoreThan, IsIn, IsNeeded, Works}
+use Rattle.loom_rows.specs.Leftovers.{IsOpen, IsLeftover, IsLeftoverOf, IsRowOf, AreMoreThan, IsIn, IsNeeded, Works}
 use Rattle.loom_rows.specs.Meet.{IsNever}
 use Rattle.loom_rows.proofs.Outcomes.{gains-weaken}
 use Rattle.loom_rows.proofs.Worked.{more-weaken}

@@ -1,31 +1,29 @@
 -- The first clash, from the first two users of a cavity that hold together.
-use Rattle.std.proofs.Common.{◌≡◌, ◌≢◌, ℕ, zero, suc, ◌+◌, ◌-◌, ◌<◌, ◌≤◌, ◌⊎◌, inl, inr, Bool, true, false, ◌&&◌, List, [], ◌∷◌, ◌++◌, length, map, get_or, drop, take, Some, None, Option, slice_get, refl, sym, ap, subst, ◌∙◌, arith, IsTrue, Contains, filter}
-use Rattle.std.specs.List.{filter_map, AllPairs}
+use Rattle.std.proofs.Common.{◌≡◌, ℕ, zero, suc, ◌+◌, ◌-◌, ◌<◌, inl, inr, Bool, true, ◌&&◌, List, [], ◌∷◌, length, get_or, drop, Some, slice_get, refl, sym, ap, subst, ◌∙◌, arith, IsTrue, Contains}
+use Rattle.std.specs.List.{AllPairs}
 use Rattle.std.proofs.lemmas.Bool.{cases_lt, cases_order, and_parts, and_from, true≢false}
-use Rattle.std.proofs.lemmas.List.{get_or-map, length-map, get_or_default, get_or_past}
+use Rattle.std.proofs.lemmas.List.{get_or-map, length-map, get_or_past}
 use Rattle.std.proofs.lemmas.Option.{slice_get-get_or, slice_get_within, same_Some}
 use Rattle.loom_base.proofs.Contained.{Contains-map, Contains-from_map, Contains-filter, Contains-from_filter}
-use Rattle.loom_formula.specs.Choice.{IsBefore, IsLeastChoice, choice_at}
+use Rattle.loom_formula.specs.Choice.{IsLeastChoice}
 use Rattle.loom_formula.specs.Formula.{holds_of}
 use Rattle.loom_project.specs.declared.draft.Draft.{Draft}
 use Rattle.loom_project.specs.declared.draft.TerminalDraft.{TerminalDraft}
 use Rattle.loom_project.specs.Draft.{index_of, cavity_names}
-use Rattle.loom_project.specs.Project.{net_at, no_net, cavities_of}
+use Rattle.loom_project.specs.Project.{no_net}
 use Rattle.loom_rows.specs.Condition.{Meaning, value, both}
 use Rattle.loom_rows.specs.Table.{Table, Has}
 use Rattle.loom_rows.specs.Formulas.{meaning_of}
-use Rattle.loom_rows.specs.Meet.{IsNever, Meet}
 use Rattle.loom_rows.proofs.Counted.{element}
 use Rattle.loom_active.specs.declared.clash.User.{User}
 use Rattle.loom_active.specs.declared.terminals.Terminal.{Terminal}
 use Rattle.loom_active.specs.Needs.{is_valid_for, need_of, active_terminals}
 use Rattle.loom_active.specs.Clash.{IsClash, HasNoClash, IsClashBefore, IsFirstClash}
-use Rattle.loom_active.specs.LiveWork.{formulas_of}
 use Rattle.loom_active.specs.Terminals.{AreTerminalsOf, AreTerminals}
-use Rattle.loom_active.specs.Users.{user_of, users_of, HasUsers, AreUnmet, IsFirstMet, AreApartBefore, IsFirstPair}
+use Rattle.loom_active.specs.Users.{users_of, HasUsers, AreUnmet, AreApartBefore, IsFirstPair}
 use Rattle.loom_active.proofs.Pairs.{slice_get-map}
-use Rattle.loom_active.proofs.TerminalSteps.{drafts_of, no_terminal}
-use Rattle.loom_active.proofs.UserLemmas.{UserBefore, IsUser, users-some, some-users, users-order}
+use Rattle.loom_active.proofs.TerminalSteps.{drafts_of}
+use Rattle.loom_active.proofs.UserLemmas.{UserBefore, users-some, some-users, users-order}
 
 pub at_place : {X : Type 0} (xs : List X) (x : X) (at : Contains xs x) → slice_get xs at.0 ≡ Some x
 at_place xs x at = slice_get-get_or xs at.0 x at.1 ∙ ap Some at.2

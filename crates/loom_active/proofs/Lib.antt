@@ -14,3 +14,7 @@ pub mod UserLemmas
 pub mod ClashLemmas
 pub mod UserSteps
 pub mod LiveLemmas
+pub mod TreeEnds
+pub mod TreesJoin
+pub mod NeedMasks
+pub mod PlanJoins

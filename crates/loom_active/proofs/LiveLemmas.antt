@@ -1,12 +1,12 @@
 -- How the search for live sets stops, and what the table stands for between its steps.
-use Rattle.std.proofs.Common.{◌≡◌, ℕ, inl, inr, List, [], ◌∷◌, ◌++◌, length, refl, sym, ap, subst, ◌∙◌, arith, Result, Ok, Err}
+use Rattle.std.proofs.Common.{◌≡◌, ℕ, inl, inr, List, refl, sym, subst, ◌∙◌, Result, Ok, Err}
 use Rattle.loom_project.specs.declared.draft.Draft.{Draft}
 use Rattle.loom_rows.specs.declared.cond.Cond.{Cond}
 use Rattle.loom_rows.specs.declared.stop.RowsStop.{RowsStop}
 use Rattle.loom_rows.specs.declared.stop.RowsStop.TheVariants.{TooManyRows, NoMemory}
 use Rattle.loom_rows.specs.Condition.{Meaning, value}
-use Rattle.loom_rows.specs.Table.{Table, Has}
-use Rattle.loom_rows.specs.Leftovers.{AreSame, IsLeftoverOf, IsRowOf, AreMoreThan, Gains, StandsFor, Works}
+use Rattle.loom_rows.specs.Table.{Table}
+use Rattle.loom_rows.specs.Leftovers.{AreSame, IsRowOf, AreMoreThan, Gains, StandsFor, Works}
 use Rattle.loom_rows.proofs.Conditions.{same}
 use Rattle.loom_rows.proofs.Worked.{stands-after, rows-few, rows-many}
 use Rattle.loom_active.specs.declared.stop.ActiveStop.{ActiveStop}

@@ -1,26 +1,26 @@
 -- The patterns of signs of formulas, one formula after another.
-use Rattle.std.proofs.Common.{◌≡◌, ◌≢◌, ℕ, zero, suc, ◌+◌, ◌-◌, ◌*◌, ◌^◌, ◌<◌, ◌≤◌, ◌⊎◌, inl, inr, Bool, true, false, not, ◌&&◌, ◌==◌, List, [], ◌∷◌, ◌++◌, length, map, get_or, take, refl, sym, ap, subst, ◌∙◌, arith, IsTrue, Contains, Result, Ok, Err, Some, slice_get, append-nil, length-append}
-use Rattle.std.specs.List.{flat_map, range_with_len, AllPairs}
+use Rattle.std.proofs.Common.{◌≡◌, ◌≢◌, ℕ, suc, ◌+◌, ◌-◌, ◌^◌, ◌<◌, ◌⊎◌, inl, inr, not, ◌&&◌, List, [], ◌∷◌, ◌++◌, length, get_or, take, refl, sym, ap, subst, ◌∙◌, arith, Contains, Result, Ok, length-append}
+use Rattle.std.specs.List.{flat_map, range_with_len}
 use Rattle.std.proofs.Math.Nat.{pow-succ'}
-use Rattle.std.proofs.lemmas.Bool.{cases_Bool, cases_eq, cases_lt, eqb-true, eq-eqb, true≢false, and_parts}
+use Rattle.std.proofs.lemmas.Bool.{cases_Bool, cases_eq, cases_lt, true≢false, and_parts}
 use Rattle.std.proofs.lemmas.List.{get_or_default, get_or-take, take_more, length-take}
 use Rattle.std.proofs.lemmas.List.FromFn.{get_or-range_with_len, length-range_with_len}
 use Rattle.std.proofs.lemmas.List.Elements.{Contains-append_left, Contains-append_right, Contains-append_cases, Contains-push, Contains-push_cases}
 use Rattle.std.proofs.lemmas.List.Quantifiers.{all_pairs_push}
 use Rattle.std.proofs.lemmas.List.Concat.{flat_map_single}
-use Rattle.loom_base.proofs.Contained.{Contains-here, Contains-cons, Contains-cases, Contains-one, Contains-map, Contains-from_map, Contains-range_with_len}
+use Rattle.loom_base.proofs.Contained.{Contains-here, Contains-cons, Contains-cases, Contains-map, Contains-from_map, Contains-range_with_len}
 use Rattle.loom_rows.specs.declared.cond.Cond.{Cond}
 use Rattle.loom_rows.specs.declared.stop.RowsStop.{RowsStop}
 use Rattle.loom_rows.specs.Condition.{Meaning, value, both, negation}
 use Rattle.loom_rows.specs.Table.{Table, Has, IsSound}
-use Rattle.loom_rows.specs.Leftovers.{AreSame, Gains, Works}
+use Rattle.loom_rows.specs.Leftovers.{AreSame, Works}
 use Rattle.loom_rows.specs.Meet.{IsNever, IsPossible}
 use Rattle.loom_rows.proofs.Conditions.{same}
 use Rattle.loom_rows.proofs.Progress.{Progress, progress-none}
 use Rattle.loom_active.specs.declared.patterns.Pattern.{Pattern}
 use Rattle.loom_active.specs.LiveWork.{signed, patterns}
 use Rattle.loom_active.specs.Patterns.{AreRising, ArePatterns, IsJoinedWith, AreJoinedWith, joined_worked}
-use Rattle.loom_active.proofs.Masks.{signed-low, signed-high, signed-is, signed-below}
+use Rattle.loom_active.proofs.Masks.{signed-low, signed-high, signed-below}
 use Rattle.loom_active.proofs.Pairs.{pairs-append}
 use Rattle.loom_active.proofs.Steps.{step-next}
 use Rattle.loom_active.proofs.Alike.{AreAmong, works-alike}

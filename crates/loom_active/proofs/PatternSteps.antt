@@ -1,30 +1,30 @@
 -- The patterns of signs of a net, terminal after terminal.
-use Rattle.std.proofs.Common.{◌≡◌, ℕ, zero, suc, ◌+◌, ◌*◌, ◌^◌, ◌<◌, ◌≤◌, Bool, true, false, ◌&&◌, ◌==◌, List, [], ◌∷◌, ◌++◌, length, map, get_or, take, refl, sym, ap, subst, ◌∙◌, arith, Contains, Result, Ok, Err, slice_get, Some, length-append}
+use Rattle.std.proofs.Common.{◌≡◌, ℕ, suc, ◌+◌, ◌*◌, ◌^◌, ◌<◌, ◌≤◌, Bool, true, false, ◌&&◌, ◌==◌, List, [], ◌∷◌, ◌++◌, length, get_or, take, refl, sym, ap, subst, ◌∙◌, arith, Contains, Result, Ok, Err, Some}
 use Rattle.std.specs.List.{flat_map, range_with_len}
 use Rattle.std.proofs.Math.Pow.{pow_mono}
 use Rattle.std.proofs.Math.Nat.{pow-succ'}
 use Rattle.std.proofs.lemmas.Bool.{and_parts, eqb-true}
 use Rattle.std.proofs.lemmas.Option.{slice_get-get_or}
-use Rattle.std.proofs.lemmas.List.{get_or-map, length-map, length-take-le, take_more, take_all, get_or_default}
+use Rattle.std.proofs.lemmas.List.{get_or-map, length-map, length-take-le, take_more, take_all}
 use Rattle.std.proofs.lemmas.List.FromFn.{get_or-range_with_len, length-range_with_len}
 use Rattle.loom_base.proofs.Contained.{Contains-one, Contains-here}
 use Rattle.loom_rows.specs.declared.cond.Cond.{Cond}
 use Rattle.loom_rows.specs.declared.stop.RowsStop.{RowsStop}
 use Rattle.loom_rows.specs.declared.stop.RowsStop.TheVariants.{NoMemory}
-use Rattle.loom_rows.specs.Condition.{Meaning, value, both, negation}
+use Rattle.loom_rows.specs.Condition.{Meaning, value, negation}
 use Rattle.loom_rows.specs.Table.{Table, Has, IsSound}
 use Rattle.loom_rows.specs.Leftovers.{AreSame, Works}
 use Rattle.loom_rows.specs.Formulas.{never}
 use Rattle.loom_rows.specs.Meet.{IsPossible}
 use Rattle.loom_rows.proofs.Conditions.{same}
-use Rattle.loom_rows.proofs.Progress.{Progress, progress-none, progress-no_memory, stop-first}
+use Rattle.loom_rows.proofs.Progress.{Progress, progress-none, stop-first}
 use Rattle.loom_rows.proofs.WorkFolds.{works-then}
 use Rattle.loom_active.specs.declared.patterns.Pattern.{Pattern}
 use Rattle.loom_active.specs.declared.terminals.Terminal.{Terminal}
 use Rattle.loom_active.specs.LiveWork.{signed, patterns, signs_worked}
 use Rattle.loom_active.specs.Patterns.{ArePatterns, AreJoinedWith, HasEach, LeaveRoom, joined_worked}
 use Rattle.loom_active.specs.Terminals.{whens_of, HasWhens}
-use Rattle.loom_active.proofs.PatternLemmas.{split_worked, split-works, split-patterns}
+use Rattle.loom_active.proofs.PatternLemmas.{split-works, split-patterns}
 use Rattle.loom_active.proofs.Steps.{step-next, step-stop, step-no_memory, step-done}
 
 -- what is worked out at the k-th formula

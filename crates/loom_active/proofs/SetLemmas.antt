@@ -1,7 +1,7 @@
 -- Live sets, from the patterns of signs of nets.
-use Rattle.std.proofs.Common.{◌≡◌, ℕ, zero, suc, ◌+◌, ◌<◌, ◌≤◌, ◌⊎◌, inl, inr, Bool, true, false, cond, ◌&&◌, ◌==◌, List, [], ◌∷◌, ◌++◌, length, map, get_or, take, Some, None, Option, slice_get, refl, sym, ap, subst, ◌∙◌, arith, IsTrue, Contains, ◌↔◌, nat_le, if◌then◌else◌, filter, count_by}
+use Rattle.std.proofs.Common.{◌≡◌, ℕ, ◌+◌, ◌<◌, ◌≤◌, inl, inr, Bool, true, ◌==◌, List, [], ◌∷◌, ◌++◌, length, map, get_or, Some, None, Option, refl, sym, ap, subst, ◌∙◌, arith, IsTrue, Contains, ◌↔◌, if◌then◌else◌, filter}
 use Rattle.std.specs.Prelude.{count_ones}
-use Rattle.std.specs.List.{filter_map, cons_option, AllPairs, All}
+use Rattle.std.specs.List.{filter_map, cons_option, AllPairs}
 use Rattle.std.proofs.lemmas.Bool.{cases_lt, cases_order, le-leb, lt-leb, eq-eqb, and_from}
 use Rattle.std.proofs.lemmas.List.{length-map, get_or_default, get_or_past}
 use Rattle.std.proofs.lemmas.Option.{slice_get_within, same_Some}
@@ -13,7 +13,7 @@ use Rattle.loom_formula.specs.Formula.{holds_of}
 use Rattle.loom_project.specs.declared.draft.Draft.{Draft}
 use Rattle.loom_project.specs.declared.draft.TerminalDraft.{TerminalDraft}
 use Rattle.loom_project.specs.Draft.{index_of, cavity_names}
-use Rattle.loom_project.specs.Project.{net_at, no_net, cavities_of}
+use Rattle.loom_project.specs.Project.{net_at, no_net}
 use Rattle.loom_rows.specs.declared.cond.Cond.{Cond}
 use Rattle.loom_rows.specs.Condition.{Meaning, value}
 use Rattle.loom_rows.specs.Table.{Table, Has}
@@ -24,7 +24,7 @@ use Rattle.loom_active.specs.declared.live.LiveSet.{LiveSet}
 use Rattle.loom_active.specs.declared.patterns.Pattern.{Pattern}
 use Rattle.loom_active.specs.declared.terminals.Terminal.{Terminal}
 use Rattle.loom_active.specs.Needs.{is_valid_for, need_of, active_terminals}
-use Rattle.loom_active.specs.LiveSets.{mask_of, need_mask, IsLiveUnder, IsLiveSet, IsBefore}
+use Rattle.loom_active.specs.LiveSets.{mask_of, need_mask, IsLiveUnder, IsLiveSet, IsListedBefore}
 use Rattle.loom_active.specs.LiveStops.{HaveMoreSets}
 use Rattle.loom_active.specs.LiveWork.{signed, formulas_of}
 use Rattle.loom_active.specs.Patterns.{ArePatterns, AreRising}
@@ -218,7 +218,7 @@ sets-all draft t n sets past below = record {
 pub sets-many : (draft : Draft) (t : Table) (n limit : ℕ) (sets : List LiveSet) → AreLiveSetsBelow draft t n sets → limit < length sets → HaveMoreSets draft n limit
 sets-many draft t n limit sets below many = let key : LiveSet → ℕ × ℕ = λ s. (s.net.0, s.mask) in record {
   listed = map key sets;
-  different = pairs-map (λ (one other : ℕ × ℕ). IsBefore one.0 one.1 other.0 other.1) key sets below.order;
+  different = pairs-map (λ (one other : ℕ × ℕ). IsListedBefore one.0 one.1 other.0 other.1) key sets below.order;
   live = All-map (λ (q : ℕ × ℕ). (q.0 < n) × IsLiveSet draft q.0 q.1) key sets (λ k d lt. below.each (get_or sets k d) (at_index sets k d lt));
   many = omega (arith, many, length-map sets key);
 }

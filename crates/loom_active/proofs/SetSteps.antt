@@ -1,9 +1,9 @@
 -- The live sets of nets, net after net.
-use Rattle.std.proofs.Common.{◌≡◌, ℕ, ◌+◌, ◌<◌, ◌≤◌, inl, inr, List, [], ◌∷◌, ◌++◌, length, get_or, take, Some, slice_get, refl, sym, ap, subst, ◌∙◌, arith, Result, Ok, Err, append_assoc, append-nil}
+use Rattle.std.proofs.Common.{◌≡◌, ℕ, ◌+◌, ◌<◌, ◌≤◌, inl, inr, List, [], ◌++◌, length, get_or, take, Some, slice_get, refl, sym, ap, subst, ◌∙◌, arith, Result, Ok, Err, append_assoc, append-nil}
 use Rattle.std.specs.List.{flat_map, filter_map}
 use Rattle.std.proofs.lemmas.List.{take_all, get_or_default, length-map}
 use Rattle.std.proofs.lemmas.Option.{slice_get-get_or, slice_get_within}
-use Rattle.loom_base.specs.declared.limits.Which.TheVariants.{Sets, Rows}
+use Rattle.loom_base.specs.declared.limits.Which.TheVariants.{Sets}
 use Rattle.loom_base.specs.declared.positions.NetNo.{NetNo}
 use Rattle.loom_project.specs.declared.draft.Draft.{Draft}
 use Rattle.loom_project.specs.declared.draft.NetDraft.{NetDraft}
@@ -19,20 +19,18 @@ use Rattle.loom_rows.proofs.Conditions.{same}
 use Rattle.loom_rows.proofs.Worked.{stands-after, rows-few, rows-many}
 use Rattle.loom_active.specs.declared.live.LiveSet.{LiveSet}
 use Rattle.loom_active.specs.declared.patterns.Pattern.{Pattern}
-use Rattle.loom_active.specs.declared.stop.ActiveStop.{ActiveStop}
 use Rattle.loom_active.specs.declared.stop.ActiveStop.TheVariants.{Limit}
 use Rattle.loom_active.specs.declared.terminals.Terminal.{Terminal}
 use Rattle.loom_active.specs.Needs.{is_valid_for}
 use Rattle.loom_active.specs.Valid.{SomeIsValid, NeedTooManyRows, stop_of}
 use Rattle.loom_active.specs.Clash.{HasNoClash}
 use Rattle.loom_active.specs.LiveWork.{formulas_of, signs_worked, needs_worked, worked_through, live_worked}
-use Rattle.loom_active.specs.LiveStops.{HaveMoreSets, IsReached, PassesSets, IsLiveStop}
+use Rattle.loom_active.specs.LiveStops.{IsReached, IsLiveStop}
 use Rattle.loom_active.specs.Patterns.{ArePatterns}
 use Rattle.loom_active.specs.Terminals.{AreTerminalsOf, AreTerminals, whens_of, HasWhens, IsSameJob}
 use Rattle.loom_active.specs.FoundSets.{AreLiveSets, AreLiveSetsBelow, set_of}
 use Rattle.loom_active.proofs.Steps.{parts-more}
 use Rattle.loom_active.proofs.SetLemmas.{whens-formulas, sets-none, sets-next, sets-all, sets-many, sets-few}
-use Rattle.loom_active.proofs.TerminalSteps.{terminals-keep}
 use Rattle.loom_rows.proofs.Counted.{element}
 
 abbrev pub signs_of : Draft → NetDraft → List Meaning

@@ -1,10 +1,9 @@
 -- Terminals, worked out one after another, and nets.
-use Rattle.std.proofs.Common.{◌≡◌, ◌≢◌, ℕ, ◌+◌, ◌<◌, ◌≤◌, ◌⊎◌, ◌&&◌, inl, inr, List, [], ◌∷◌, ◌++◌, length, map, get_or, take, refl, sym, ap, subst, ◌∙◌, arith, Result, Ok, Err, Some, slice_get}
+use Rattle.std.proofs.Common.{◌≡◌, ◌≢◌, ℕ, ◌+◌, ◌<◌, ◌≤◌, ◌&&◌, inl, inr, List, [], ◌∷◌, ◌++◌, length, map, get_or, take, refl, sym, ap, subst, ◌∙◌, arith, Result, Ok, Err, Some, slice_get}
 use Rattle.std.specs.List.{flat_map, All, AllPairs}
 use Rattle.std.proofs.lemmas.List.{get_or-map, length-map, take_more, take_all, get_or_default, get_or-take, length-take, length-append, map-append}
 use Rattle.std.proofs.lemmas.Option.{slice_get-get_or, slice_get_within, same_Some}
 use Rattle.loom_base.specs.declared.positions.CavityNo.{CavityNo}
-use Rattle.loom_formula.specs.declared.formula.Formula.{Formula}
 use Rattle.loom_formula.specs.declared.formula.Formula.TheVariants.{Always}
 use Rattle.loom_project.specs.declared.draft.Draft.{Draft}
 use Rattle.loom_project.specs.declared.draft.NetDraft.{NetDraft}

@@ -1,32 +1,14 @@
 -- The users of a cavity, and when a cavity is active in two nets.
-use Rattle.std.proofs.Common.{◌≡◌, ◌≢◌, ℕ, zero, suc, ◌+◌, ◌-◌, ◌<◌, ◌≤◌, ◌⊎◌, inl, inr, Bool, true, false, ◌&&◌, ◌==◌, List, [], ◌∷◌, ◌++◌, length, map, get_or, drop, Some, None, Option, slice_get, refl, sym, ap, subst, ◌∙◌, arith, IsTrue, Contains, if◌then◌else◌, filter}
+use Rattle.std.proofs.Common.{◌≡◌, ◌≢◌, ℕ, zero, suc, ◌+◌, ◌<◌, inl, inr, List, [], ◌∷◌, Some, None, Option, slice_get, refl, sym, ap, subst, ◌∙◌, arith, Contains, if◌then◌else◌}
 use Rattle.std.specs.List.{filter_map, cons_option, AllPairs}
-use Rattle.std.proofs.lemmas.Bool.{cases_eq, cases_lt, eq-eqb, ne_eqb, and_parts, and_from, true≢false}
-use Rattle.std.proofs.lemmas.List.{get_or-map, length-map, get_or_default, get_or_past}
+use Rattle.std.proofs.lemmas.Bool.{cases_eq, eq-eqb, ne_eqb}
 use Rattle.std.proofs.lemmas.List.Elements.{Contains-append_left, Contains-append_right, Contains-append_cases}
-use Rattle.std.proofs.lemmas.Option.{slice_get-get_or, slice_get_within, same_Some}
-use Rattle.loom_base.proofs.Contained.{Contains-here, Contains-cons, Contains-cases, Contains-map, Contains-from_map, Contains-filter, Contains-from_filter}
-use Rattle.loom_formula.specs.Choice.{IsBefore, IsLeastChoice}
-use Rattle.loom_formula.specs.Formula.{holds_of}
-use Rattle.loom_project.specs.declared.draft.Draft.{Draft}
-use Rattle.loom_project.specs.declared.draft.TerminalDraft.{TerminalDraft}
-use Rattle.loom_project.specs.Draft.{index_of, cavity_names}
-use Rattle.loom_project.specs.Project.{net_at, no_net, cavities_of}
-use Rattle.loom_rows.specs.declared.cond.Cond.{Cond}
-use Rattle.loom_rows.specs.Condition.{Meaning, value, both}
-use Rattle.loom_rows.specs.Table.{Table, Has}
-use Rattle.loom_rows.specs.Formulas.{meaning_of}
-use Rattle.loom_rows.specs.Meet.{IsNever, Meet}
-use Rattle.loom_rows.proofs.Counted.{element}
+use Rattle.std.proofs.lemmas.Option.{same_Some}
+use Rattle.loom_base.proofs.Contained.{Contains-here, Contains-cons, Contains-cases}
 use Rattle.loom_active.specs.declared.clash.User.{User}
 use Rattle.loom_active.specs.declared.terminals.Terminal.{Terminal}
-use Rattle.loom_active.specs.Needs.{is_valid_for, need_of, active_terminals}
-use Rattle.loom_active.specs.Clash.{IsClash, HasNoClash, IsClashBefore, IsFirstClash}
-use Rattle.loom_active.specs.LiveWork.{formulas_of}
-use Rattle.loom_active.specs.Terminals.{AreTerminalsOf, AreTerminals}
-use Rattle.loom_active.specs.Users.{user_of, users_from, users_of, HasUsers, AreUnmet, IsFirstMet, AreApartBefore, IsFirstPair}
-use Rattle.loom_active.proofs.Pairs.{at_index, pairs-none, pairs-cons, pairs-head, pairs-tail, pairs-append, slice_get-map}
-use Rattle.loom_active.proofs.TerminalSteps.{drafts_of}
+use Rattle.loom_active.specs.Users.{user_of, users_from}
+use Rattle.loom_active.proofs.Pairs.{pairs-none, pairs-cons, pairs-head, pairs-tail, pairs-append}
 
 -- ---- the users of a cavity
 

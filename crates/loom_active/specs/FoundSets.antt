@@ -5,10 +5,10 @@ use Rattle.loom_rows.specs.Condition.{value}
 use Rattle.loom_rows.specs.Table.{Table, Has}
 use Rattle.loom_active.specs.declared.live.LiveSet.{LiveSet}
 use Rattle.loom_active.specs.declared.patterns.Pattern.{Pattern}
-use Rattle.loom_active.specs.LiveSets.{IsLiveUnder, IsLiveSet, IsBefore}
+use Rattle.loom_active.specs.LiveSets.{IsLiveUnder, IsLiveSet, IsListedBefore}
 
 abbrev pub ComesBefore : LiveSet → LiveSet → Type 0
-ComesBefore one other = IsBefore one.net.0 one.mask other.net.0 other.mask
+ComesBefore one other = IsListedBefore one.net.0 one.mask other.net.0 other.mask
 
 -- the list holds each live set once, by net, then mask, with a condition of the table that holds exactly where the set is live
 pub record AreLiveSets (draft : Draft) (t : Table) (sets : List LiveSet) : Type 0 where

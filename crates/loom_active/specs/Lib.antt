@@ -1,11 +1,13 @@
 pub mod Clash
 pub mod FoundSets
+pub mod JoinsLaw
 pub mod LiveSets
 pub mod LiveStops
 pub mod LiveWork
 pub mod Needs
 pub mod Patterns
 pub mod RightPlan
+pub mod SetWires
 pub mod Terminals
 pub mod Usages
 pub mod Users

@@ -27,11 +27,11 @@ abbrev pub IsLiveSet : Draft → ℕ → ℕ → Type 0
 IsLiveSet draft net mask = (choice : ℕ → Bool) × IsLiveUnder draft choice net mask
 
 -- sets are ordered by net, then mask
-abbrev pub IsBefore : ℕ → ℕ → ℕ → ℕ → Type 0
-IsBefore net mask other_net other_mask = (net < other_net) ⊎ ((net ≡ other_net) × (mask < other_mask))
+abbrev pub IsListedBefore : ℕ → ℕ → ℕ → ℕ → Type 0
+IsListedBefore net mask other_net other_mask = (net < other_net) ⊎ ((net ≡ other_net) × (mask < other_mask))
 
 abbrev pub IsSetBefore : SetLine → SetLine → Type 0
-IsSetBefore one other = IsBefore one.net.0 one.mask other.net.0 other.mask
+IsSetBefore one other = IsListedBefore one.net.0 one.mask other.net.0 other.mask
 
 -- a plan prints each live set once, in order, with a condition that holds exactly where the set is live
 pub record PrintsLiveSets (draft : Draft) (plan : Plan) : Type 0 where

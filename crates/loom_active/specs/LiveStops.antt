@@ -6,14 +6,14 @@ use Rattle.loom_project.specs.declared.draft.Draft.{Draft}
 use Rattle.loom_active.specs.declared.stop.ActiveStop.{ActiveStop}
 use Rattle.loom_active.specs.declared.stop.ActiveStop.TheVariants.{NoChoice, Clash, Limit, NoMemory}
 use Rattle.loom_active.specs.Valid.{rules_worked, SomeIsValid, NoneIsValid, NeedTooManyRows}
-use Rattle.loom_active.specs.LiveSets.{IsLiveSet, IsBefore}
+use Rattle.loom_active.specs.LiveSets.{IsLiveSet, IsListedBefore}
 use Rattle.loom_active.specs.Clash.{HasNoClash, IsFirstClash}
 use Rattle.loom_active.specs.LiveWork.{needs_worked, worked_through}
 
 -- more than so many different live sets, each a net and a mask, are of the first n nets
 pub record HaveMoreSets (draft : Draft) (n limit : ℕ) : Type 0 where
   pub listed : List (ℕ × ℕ)
-  pub different : AllPairs (λ one other. IsBefore one.0 one.1 other.0 other.1) listed
+  pub different : AllPairs (λ one other. IsListedBefore one.0 one.1 other.0 other.1) listed
   pub live : All (λ set. (set.0 < n) × IsLiveSet draft set.0 set.1) listed
   pub many : limit < length listed
 

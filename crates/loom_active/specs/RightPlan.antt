@@ -1,4 +1,4 @@
-use Rattle.std.specs.Prelude.{ℕ, List, [], Bool, false, Some, ◌≡◌, ◌↔◌, ◌<◌, ◌≤◌, ◌+◌, ◌-◌, ◌^◌, ◌==◌, ◌&&◌, IsTrue, Contains, count_by, drop, filter, length, slice_index}
+use Rattle.std.specs.Prelude.{ℕ, List, [], Bool, false, Some, ◌≡◌, ◌↔◌, ◌<◌, ◌≤◌, ◌-◌, ◌^◌, ◌==◌, ◌&&◌, IsTrue, Contains, count_by, drop, filter, length, slice_index}
 use Rattle.loom_base.specs.declared.positions.SegmentNo.{SegmentNo}
 use Rattle.loom_formula.specs.NameIndex.{has_name}
 use Rattle.loom_formula.specs.RowList.{value_of}

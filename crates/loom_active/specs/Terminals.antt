@@ -1,11 +1,9 @@
 use Rattle.std.specs.Prelude.{ℕ, List, ◌≡◌, ◌≢◌, ◌<◌, ◌≤◌, AllPairs, length, map, slice_get, Some}
-use Rattle.loom_formula.specs.declared.formula.Formula.{Formula}
 use Rattle.loom_project.specs.declared.draft.Draft.{Draft}
 use Rattle.loom_project.specs.Project.{net_at, cavities_of}
 use Rattle.loom_rows.specs.Condition.{Meaning, value, both}
 use Rattle.loom_rows.specs.Table.{Table, Has}
 use Rattle.loom_rows.specs.Leftovers.{AreSame}
-use Rattle.loom_rows.specs.Formulas.{meaning_of}
 use Rattle.loom_active.specs.declared.terminals.Terminal.{Terminal}
 use Rattle.loom_active.specs.LiveWork.{formulas_of}
 

@@ -1,4 +1,4 @@
-use Rattle.std.specs.Prelude.{ℕ, Bool, ◌≡◌, IsTrue, Contains}
+use Rattle.std.specs.Prelude.{ℕ, Bool, IsTrue, Contains}
 use Rattle.loom_project.specs.declared.draft.Draft.{Draft}
 use Rattle.loom_types.specs.declared.plan.Plan.{Plan}
 use Rattle.loom_types.specs.declared.plan.SetLine.{SetLine}

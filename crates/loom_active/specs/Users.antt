@@ -1,6 +1,5 @@
 use Rattle.std.specs.Prelude.{ℕ, List, [], ◌∷◌, ◌++◌, ◌≡◌, ◌<◌, ◌+◌, ◌==◌, if◌then◌else◌, Option, Some, None, slice_get, drop}
 use Rattle.std.specs.List.{filter_map}
-use Rattle.loom_base.specs.declared.positions.NetNo.{NetNo}
 use Rattle.loom_rows.specs.Condition.{Meaning, value, both}
 use Rattle.loom_rows.specs.Table.{Table, Has}
 use Rattle.loom_rows.specs.Meet.{IsNever, Meet}

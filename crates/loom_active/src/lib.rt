@@ -2,6 +2,7 @@
 #![tactic(auto)]
 
 mod clash;
+pub mod laws;
 mod live;
 #[cfg(test)]
 mod live_tests;

@@ -21,7 +21,7 @@ use Rattle.loom_project.specs.declared.fault.ProjectFault.TheVariants.{TooFewTer
 use Rattle.loom_base.specs.First.{Check, ◌>>◌, require, each, each_after}
 use Rattle.loom_project.specs.Draft.{index_of, cavity_names, rule_nodes, terminal_nodes, net_nodes, net_names}
 use Rattle.loom_project.specs.Project.{terminal_places, net_at, no_net}
-use Rattle.loom_project.specs.Sound.{at_most, known, not_repeated, draft_check, nets_check, net_check, terminals_check, terminal_check}
+use Rattle.loom_project.specs.Sound.{within_limit, known, not_repeated, draft_check, nets_check, net_check, terminals_check, terminal_check}
 use Rattle.loom_base.proofs.EachLemmas.{each_after-append, parted}
 use Rattle.loom_project.proofs.SoundLemmas.{passes_both, required, few, passes}
 
@@ -68,7 +68,7 @@ pub terminals_sound : (options cavities : List (List ℕ)) (counted : ℕ) (net 
 unfolding terminals_check
 terminals_sound options cavities counted net h =
     let terminals = net.terminals in
-    let few_enough = passes_both (at_most limits.Terminals 12 (length terminals)) _ h in
+    let few_enough = passes_both (within_limit limits.Terminals 12 (length terminals)) _ h in
     let many = passes_both (require (nat_le 2 (length terminals)) (TooFewTerminals net.name (length terminals))) _ few_enough.1 in
     let check : List TerminalDraft → TerminalDraft → Check ProjectFault =
     λ before terminal. terminal_check options cavities (counted + terminal_nodes before) net.name before terminal in
@@ -88,7 +88,7 @@ unfolding nets_check net_check
 net_sound draft n sound lt =
     let nets = draft.nets in
     let net = net_at draft n in
-    let limited = passes_both (at_most limits.Nets 2048 (length nets)) _ (passes draft sound).nets in
+    let limited = passes_both (within_limit limits.Nets 2048 (length nets)) _ (passes draft sound).nets in
     let counted : List NetDraft → ℕ = λ before. rule_nodes draft.rules + net_nodes before in
     let check : List NetDraft → NetDraft → Check ProjectFault = λ before one. net_check draft.options (cavity_names draft.cavities) (counted before) (net_names before) one in
     let here = each_at check nets n net (get_or_default nets n no_net net lt) lt limited.1 in

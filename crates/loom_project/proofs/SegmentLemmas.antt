@@ -18,7 +18,7 @@ use Rattle.loom_project.specs.declared.fault.ProjectFault.TheVariants.{UnknownNa
 use Rattle.loom_base.specs.First.{require}
 use Rattle.loom_project.specs.Draft.{index_of, each_once, node_names, harness_labels}
 use Rattle.loom_project.specs.Project.{placed_node, placed_nodes}
-use Rattle.loom_project.specs.Sound.{not_repeated, at_most, known, border_check, ends_check, segment_check}
+use Rattle.loom_project.specs.Sound.{not_repeated, within_limit, known, border_check, ends_check, segment_check}
 use Rattle.loom_project.proofs.NameLemmas.{all_there}
 use Rattle.loom_project.proofs.NetLemmas.{same_place, place_below, not_true}
 use Rattle.loom_project.proofs.SoundLemmas.{passes_both, required}
@@ -88,5 +88,5 @@ module _ (nodes : List NodeDraft) (topology : TopologyView) (placed : topology.n
   unfolding segment_check
   segment_fits taken segment h =
       let a = passes_both (not_repeated of.Segment taken segment.name) _ h in
-      let b = passes_both (at_most limits.Bars 64 (length segment.bars)) _ a.1 in
+      let b = passes_both (within_limit limits.Bars 64 (length segment.bars)) _ a.1 in
       ends_fit segment (passes_both (ends_check nodes segment) _ b.1).0

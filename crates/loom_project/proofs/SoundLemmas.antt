@@ -10,7 +10,7 @@ use Rattle.loom_project.specs.declared.fault.ProjectFault.TheVariants.{Limit}
 use Rattle.loom_base.specs.First.{Check, ◌>>◌, require}
 use Rattle.loom_project.specs.Project.{IsWithinLimits}
 use Rattle.loom_project.specs.Draft.{node_names, cavity_names, rule_nodes}
-use Rattle.loom_project.specs.Sound.{at_most, options_check, rules_check, nodes_check, segments_check, cavities_check, nets_check, draft_check}
+use Rattle.loom_project.specs.Sound.{within_limit, options_check, rules_check, nodes_check, segments_check, cavities_check, nets_check, draft_check}
 
 pub passes_both : {F : Type 0} (a b : Check F) → (a >> b) ≡ Ok tt → (a ≡ Ok tt) × (b ≡ Ok tt)
 passes_both (Ok p) b h = (refl, h)
@@ -20,7 +20,7 @@ pub required : {F : Type 0} (holds : Bool) (failure : F) → require holds failu
 required true failure h = refl
 required false failure h = cc
 
-pub few : (which : Which) (limit count : ℕ) → at_most which limit count ≡ Ok tt → count ≤ limit
+pub few : (which : Which) (limit count : ℕ) → within_limit which limit count ≡ Ok tt → count ≤ limit
 few which limit count h = leb-true count limit (required (nat_le count limit) (Limit which (limit + 1)) h)
 
 -- each list of a draft passes
@@ -43,8 +43,8 @@ passes draft h =
     record { options = a.0; rules = b.0; nodes = c.0; segments = d.0; cavities = e.0; nets = e.1 }
 
 -- a list that passes is within its limit
-limited : (which : Which) (limit count : ℕ) (rest : Check ProjectFault) → (at_most which limit count >> rest) ≡ Ok tt → count ≤ limit
-limited which limit count rest h = few which limit count (passes_both (at_most which limit count) rest h).0
+limited : (which : Which) (limit count : ℕ) (rest : Check ProjectFault) → (within_limit which limit count >> rest) ≡ Ok tt → count ≤ limit
+limited which limit count rest h = few which limit count (passes_both (within_limit which limit count) rest h).0
 
 pub within_limits : (draft : Draft) → draft_check draft ≡ Ok tt → IsWithinLimits draft
 unfolding options_check rules_check nodes_check segments_check cavities_check nets_check

@@ -21,8 +21,8 @@ use Rattle.loom_base.specs.First.{Check, ◌>>◌, require, every, each}
 use Rattle.loom_project.specs.Draft.{node_names, harness_of, segment_names, cavity_names, net_names, pins_of, option_names, rule_nodes, terminal_nodes, net_nodes}
 
 -- there are no more than the limit; a refusal counts the limit and one more
-abbrev pub at_most : Which → ℕ → ℕ → Check ProjectFault
-at_most which limit count = require (nat_le count limit) (Limit which (limit + 1))
+abbrev pub within_limit : Which → ℕ → ℕ → Check ProjectFault
+within_limit which limit count = require (nat_le count limit) (Limit which (limit + 1))
 
 -- no earlier thing of the kind has the name
 abbrev pub not_repeated : Of → List (List ℕ) → List ℕ → Check ProjectFault
@@ -35,21 +35,21 @@ known kind names name = require (has_name names name) (UnknownName kind name)
 -- at most 512 options, each with a name of its own
 unfoldable pub options_check : List (List ℕ) → Check ProjectFault
 options_check options =
-    at_most limits.Options 512 (length options)
+    within_limit limits.Options 512 (length options)
     >> each (not_repeated of.OptionName) options
 
 -- a formula is at most 64 deep, names options alone, and has with the nodes counted before it at most
 -- 65,536 nodes
 unfoldable pub formula_check : List (List ℕ) → ℕ → Formula → Check ProjectFault
 formula_check options counted formula =
-    at_most limits.FormulaDepth 64 (depth_of formula)
+    within_limit limits.FormulaDepth 64 (depth_of formula)
     >> every (known of.OptionName options) (option_names formula)
-    >> at_most limits.FormulaNodes 65536 (counted + nodes_of formula)
+    >> within_limit limits.FormulaNodes 65536 (counted + nodes_of formula)
 
 -- at most 1,024 rules, each of them a sound formula
 unfoldable pub rules_check : List (List ℕ) → List Formula → Check ProjectFault
 rules_check options rules =
-    at_most limits.Rules 1024 (length rules)
+    within_limit limits.Rules 1024 (length rules)
     >> each (λ before rule. formula_check options (rule_nodes before) rule) rules
 
 -- a node has a name that isn't taken
@@ -59,7 +59,7 @@ node_check taken node = not_repeated of.Node taken node.name
 -- at most 1,024 nodes, each of them sound
 unfoldable pub nodes_check : List NodeDraft → Check ProjectFault
 nodes_check nodes =
-    at_most limits.Nodes 1024 (length nodes)
+    within_limit limits.Nodes 1024 (length nodes)
     >> each (λ before node. node_check (node_names before) node) nodes
 
 -- a run lies inside one harness, a coupler joins two
@@ -84,14 +84,14 @@ pin_check name pins pin = require (nat_le 1 pin && nat_le pin pins) (ReservedPin
 unfoldable pub segment_check : List NodeDraft → List (List ℕ) → SegmentDraft → Check ProjectFault
 segment_check nodes taken segment =
     not_repeated of.Segment taken segment.name
-    >> at_most limits.Bars 64 (length segment.bars)
+    >> within_limit limits.Bars 64 (length segment.bars)
     >> ends_check nodes segment
     >> every (pin_check segment.name (pins_of segment.kind)) segment.reserved
 
 -- at most 4,096 segments, each of them sound
 unfoldable pub segments_check : List NodeDraft → List SegmentDraft → Check ProjectFault
 segments_check nodes segments =
-    at_most limits.Segments 4096 (length segments)
+    within_limit limits.Segments 4096 (length segments)
     >> each (λ before segment. segment_check nodes (segment_names before) segment) segments
 
 -- a cavity has a name that isn't taken, and lies at a node
@@ -103,7 +103,7 @@ cavity_check nodes taken cavity =
 -- at most 8,192 cavities, each of them sound
 unfoldable pub cavities_check : List (List ℕ) → List CavityDraft → Check ProjectFault
 cavities_check nodes cavities =
-    at_most limits.Cavities 8192 (length cavities)
+    within_limit limits.Cavities 8192 (length cavities)
     >> each (λ before cavity. cavity_check nodes (cavity_names before) cavity) cavities
 
 -- a terminal names a cavity, which no earlier terminal of its net names, and has a sound formula
@@ -118,7 +118,7 @@ terminal_check options cavities counted net before terminal =
 -- a net has 2 to 12 terminals, each of them sound
 unfoldable pub terminals_check : List (List ℕ) → List (List ℕ) → ℕ → NetDraft → Check ProjectFault
 terminals_check options cavities counted net =
-    at_most limits.Terminals 12 (length net.terminals)
+    within_limit limits.Terminals 12 (length net.terminals)
     >> require (nat_le 2 (length net.terminals)) (TooFewTerminals net.name (length net.terminals))
     >> each (λ before terminal.
     terminal_check options cavities (counted + terminal_nodes before) net.name before terminal) net.terminals
@@ -134,7 +134,7 @@ net_check options cavities counted taken net =
 -- rules
 unfoldable pub nets_check : List (List ℕ) → List (List ℕ) → ℕ → List NetDraft → Check ProjectFault
 nets_check options cavities counted nets =
-    at_most limits.Nets 2048 (length nets)
+    within_limit limits.Nets 2048 (length nets)
     >> each (λ before net.
     net_check options cavities (counted + net_nodes before) (net_names before) net) nets
 

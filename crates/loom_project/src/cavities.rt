@@ -2,7 +2,7 @@ ghost use Rattle.std.specs.Prelude.{◌≡◌, ◌<◌, ◌++◌, ◌∷◌, [],
 ghost use Rattle.loom_project.specs.Draft.{index_of, node_names, cavity_names};
 ghost use Rattle.loom_project.specs.Sound.{cavity_check, cavities_check, Gives};
 
-use crate::require::{add_name, at_most, known};
+use crate::require::{add_name, known, within_limit};
 use crate::{CavityDraft, Of, ProjectFault};
 use loom_base::{MAX_CAVITIES, NodeNo, Which};
 use loom_formula::NameIndex;
@@ -26,7 +26,7 @@ pub fn add_cavities(
       cavities = map (λ cavity. index_of places.now cavity.node) cavities.now;
     }) }
 {
-    at_most(Which::Cavities, MAX_CAVITIES, cavities.len() as u64)?;
+    within_limit(Which::Cavities, MAX_CAVITIES, cavities.len() as u64)?;
     let mut names = NameIndex::new(alloc);
     for cavity in cavities {
         let node = checked_cavity(places, &mut names, cavity)?;

@@ -5,9 +5,9 @@ ghost use Rattle.loom_project.specs.declared.fault.Of.TheVariants as of;
 ghost use Rattle.loom_base.specs.declared.limits.Which.TheVariants as limits;
 ghost use Rattle.loom_base.specs.First.{every};
 ghost use Rattle.loom_project.specs.Draft.{option_names, rule_nodes};
-ghost use Rattle.loom_project.specs.Sound.{at_most, known, formula_check, rules_check, Answers};
+ghost use Rattle.loom_project.specs.Sound.{within_limit, known, formula_check, rules_check, Answers};
 
-use crate::require::{at_most, require};
+use crate::require::{require, within_limit};
 use crate::{Of, ProjectFault};
 use loom_base::{MAX_FORMULA_DEPTH, MAX_FORMULA_NODES, MAX_RULES, Name, Which};
 use loom_formula::{Formula, Members, Options};
@@ -38,20 +38,20 @@ impl FormulaCount {
 fn counted(nodes: u64, formula: &Formula) -> Result<u64, ProjectFault>
     requires { nodes ≤ 65536 }
     ensures answers { Answers result
-        (at_most limits.FormulaNodes 65536 (nodes + nodes_of formula.now)) }
+        (within_limit limits.FormulaNodes 65536 (nodes + nodes_of formula.now)) }
     ensures counted { IfOk result (λ all. all ≡ nodes + nodes_of formula.now) }
     ensures few { IfOk result (λ all. all ≤ 65536) }
 {
     let nodes = nodes.saturating_add(formula.nodes());
-    at_most(Which::FormulaNodes, MAX_FORMULA_NODES, nodes)?;
+    within_limit(Which::FormulaNodes, MAX_FORMULA_NODES, nodes)?;
     Ok(nodes)
 }
 
 /// A formula is not too deep.
 fn check_depth(formula: &Formula) -> Result<(), ProjectFault>
-    ensures { result ≡ at_most limits.FormulaDepth 64 (depth_of formula.now) }
+    ensures { result ≡ within_limit limits.FormulaDepth 64 (depth_of formula.now) }
 {
-    at_most(Which::FormulaDepth, MAX_FORMULA_DEPTH, formula.depth())
+    within_limit(Which::FormulaDepth, MAX_FORMULA_DEPTH, formula.depth())
 }
 
 /// The name is that of an option.
@@ -97,7 +97,7 @@ pub fn checked_rules(options: &Options, rules: &[Formula]) -> Result<FormulaCoun
     ensures counted { IfOk result (λ count. count.nodes ≡ rule_nodes rules.now) }
     ensures few { IfOk result (λ count. count.nodes ≤ 65536) }
 {
-    at_most(Which::Rules, MAX_RULES, rules.len() as u64)?;
+    within_limit(Which::Rules, MAX_RULES, rules.len() as u64)?;
     let mut count = FormulaCount { nodes: 0 };
     for rule in rules {
         count.add(options, rule)?;

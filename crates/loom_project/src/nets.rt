@@ -6,7 +6,7 @@ ghost use Rattle.loom_project.specs.Project.{terminal_places, net_places};
 ghost use Rattle.loom_project.specs.Sound.{terminal_check, terminals_check, net_check, nets_check, Gives, Answers};
 
 use crate::formulas::FormulaCount;
-use crate::require::{add_name, at_most, known, require};
+use crate::require::{add_name, known, require, within_limit};
 use crate::{NetDraft, Of, ProjectFault, TerminalDraft};
 use loom_base::{CavityNo, List, MAX_NETS, MAX_TERMINALS, Name, Which};
 use loom_formula::{NameIndex, Options};
@@ -26,7 +26,7 @@ pub fn checked_nets(
     ensures places { IfOk result (λ found. map (map (λ c. c.0)) found
         ≡ net_places cavities.now nets.now) }
 {
-    at_most(Which::Nets, MAX_NETS, nets.len() as u64)?;
+    within_limit(Which::Nets, MAX_NETS, nets.len() as u64)?;
     let mut taken = NameIndex::new(alloc);
     let mut count = rules;
     let mut found = List::new(alloc);
@@ -81,7 +81,7 @@ fn checked_terminals(
 {
     let terminals = net.terminals.as_slice();
     let len = terminals.len() as u64;
-    at_most(Which::Terminals, MAX_TERMINALS, len)?;
+    within_limit(Which::Terminals, MAX_TERMINALS, len)?;
     let too_few = ProjectFault::TooFewTerminals {
         net: net.name,
         count: len,

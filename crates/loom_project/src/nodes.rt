@@ -3,7 +3,7 @@ ghost use Rattle.loom_project.specs.Draft.{node_names};
 ghost use Rattle.loom_project.specs.Project.{placed_nodes};
 ghost use Rattle.loom_project.specs.Sound.{node_check, nodes_check, Gives};
 
-use crate::require::{add_name, at_most, label_number};
+use crate::require::{add_name, label_number, within_limit};
 use crate::{NodeDraft, Of, ProjectFault};
 use loom_base::{MAX_NODES, Which};
 use loom_formula::NameIndex;
@@ -25,7 +25,7 @@ pub fn checked_nodes(alloc: Global, nodes: &[NodeDraft]) -> Result<Nodes, Projec
     ensures topology { IfOk result (λ made. made.topology
         ≡ record { nodes = placed_nodes nodes.now; segments = []; cavities = [] }) }
 {
-    at_most(Which::Nodes, MAX_NODES, nodes.len() as u64)?;
+    within_limit(Which::Nodes, MAX_NODES, nodes.len() as u64)?;
     let mut names = NameIndex::new(alloc);
     let mut harnesses = NameIndex::new(alloc);
     let mut topology = Topology::new(alloc);

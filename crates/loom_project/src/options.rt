@@ -1,7 +1,7 @@
 ghost use Rattle.std.specs.Prelude.{◌≡◌, IfOk};
 ghost use Rattle.loom_project.specs.Sound.{options_check, Gives};
 
-use crate::require::{at_most, require};
+use crate::require::{require, within_limit};
 use crate::{Of, ProjectFault};
 use loom_base::{MAX_OPTIONS, Name, Which};
 use loom_formula::Options;
@@ -13,7 +13,7 @@ pub fn checked_options(alloc: Global, names: &[Name]) -> Result<Options, Project
     ensures gives { Gives result (options_check names.now) }
     ensures options { IfOk result (λ options. options ≡ names.now) }
 {
-    at_most(Which::Options, MAX_OPTIONS, names.len() as u64)?;
+    within_limit(Which::Options, MAX_OPTIONS, names.len() as u64)?;
     let mut options = Options::new(alloc);
     for &name in names {
         let is_new = options.add(name)?;

@@ -2,7 +2,7 @@ ghost use Rattle.std.specs.Prelude.{◌≡◌, ◌≤◌, ◌<◌, ◌++◌, ◌
 ghost use Rattle.loom_formula.specs.NameIndex.{with_name};
 ghost use Rattle.loom_base.specs.First.{require};
 ghost use Rattle.loom_project.specs.Draft.{index_of};
-ghost use Rattle.loom_project.specs.Sound.{at_most, not_repeated, known, Gives, Answers};
+ghost use Rattle.loom_project.specs.Sound.{within_limit, not_repeated, known, Gives, Answers};
 
 use crate::{Of, ProjectFault};
 use loom_base::{Name, NoMemory, Which};
@@ -16,9 +16,9 @@ pub fn require(holds: bool, fault: ProjectFault) -> Result<(), ProjectFault>
 }
 
 /// Passes exactly where there are no more than the limit.
-pub fn at_most(which: Which, limit: u64, count: u64) -> Result<(), ProjectFault>
+pub fn within_limit(which: Which, limit: u64, count: u64) -> Result<(), ProjectFault>
     requires { limit ≤ 65536 }
-    ensures check { result ≡ at_most which limit count }
+    ensures check { result ≡ within_limit which limit count }
     ensures within { OnOk result (count ≤ limit) }
 {
     let fault = ProjectFault::Limit {

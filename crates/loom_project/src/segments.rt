@@ -6,7 +6,7 @@ ghost use Rattle.loom_project.specs.Draft.{index_of, node_names, harness_of, pin
 ghost use Rattle.loom_project.specs.Project.{placed_nodes, placed_segment};
 ghost use Rattle.loom_project.specs.Sound.{border_check, ends_check, pin_check, segment_check, segments_check, Gives, Answers};
 
-use crate::require::{add_name, at_most, known, require};
+use crate::require::{add_name, known, require, within_limit};
 use crate::{NodeDraft, Of, ProjectFault, SegmentDraft};
 use loom_base::{MAX_BARS, MAX_SEGMENTS, Name, NoMemory, NodeNo, Which};
 use loom_formula::NameIndex;
@@ -30,7 +30,7 @@ pub fn add_segments(
       segments = map (placed_segment (node_names nodes.now)) segments.now;
     }) }
 {
-    at_most(Which::Segments, MAX_SEGMENTS, segments.len() as u64)?;
+    within_limit(Which::Segments, MAX_SEGMENTS, segments.len() as u64)?;
     let mut taken = NameIndex::new(alloc);
     for segment in segments {
         let (from, to) = checked_segment(nodes, places, &mut taken, segment)?;
@@ -80,7 +80,7 @@ fn checked_segment(
     ensures to_within { IfOk result (λ ends. ends.1.0 < length nodes.now) }
 {
     add_name(taken, Of::Segment, segment.name)?;
-    at_most(Which::Bars, MAX_BARS, segment.bars.len() as u64)?;
+    within_limit(Which::Bars, MAX_BARS, segment.bars.len() as u64)?;
     let ends = checked_ends(nodes, places, segment)?;
     check_pins(
         segment.name,

@@ -3,7 +3,7 @@ ghost use Rattle.std.specs.List.{All};
 ghost use Rattle.loom_steiner.specs.LeastTable.{IsLeastTable};
 
 use crate::ground::Ground;
-use crate::row::fill_row;
+use crate::row::{MaskPart, fill_row};
 use crate::scratch_table::ScratchTable;
 use crate::ways::NO_TREE;
 use bumpalo::Bump;
@@ -35,7 +35,12 @@ pub fn fill<'s>(
         let bit = mask.ilog2();
         let high = 1u32 << bit;
         let home = topology.cavity_node(terminals[bit as usize + 1]).0 as usize;
-        fill_row(&ground, &cells, high, mask - high, home, row, &mut worklist)?;
+        let part = MaskPart {
+            high,
+            rest: mask - high,
+            home,
+        };
+        fill_row(&ground, &cells, part, row, &mut worklist)?;
         cells.extend_from_slice(row)?;
     }
     Ok(ScratchTable::of(end - 1, nodes, into_bump_slice(cells)))

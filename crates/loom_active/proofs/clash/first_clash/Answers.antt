@@ -1,5 +1,5 @@
 -- The cavities are gone over in order.
-use Rattle.std.proofs.Common.{ℕ, ◌≡◌, ◌<◌, List, [], length, get_or, sym, ap, subst, ◌∙◌, arith}
+use Rattle.std.proofs.Common.{List, length, sym, ap, subst, arith}
 use Rattle.loom_project.specs.declared.draft.Draft.{Draft}
 use Rattle.loom_rows.specs.Table.{Table}
 use Rattle.loom_active.specs.declared.clash.User.{User}

@@ -1,5 +1,5 @@
 -- The steps in order.
-use Rattle.std.proofs.Common.{List, sym, ap, subst, ◌∙◌, arith, Result, Ok, Err, IfErr}
+use Rattle.std.proofs.Common.{List, sym, ap, subst, ◌∙◌, Result, Err, IfErr}
 use Rattle.std.proofs.lemmas.Result.{err_from_is_err_and}
 use Rattle.loom_rows.specs.Condition.{value}
 use Rattle.loom_active.specs.declared.live.Sets.{Sets}

@@ -1,5 +1,5 @@
 -- Each net's patterns are worked out in turn, and its sets appended.
-use Rattle.std.proofs.Common.{◌≡◌, ◌++◌, get_or, refl, List, sym, ap, subst, ◌∙◌, arith, Result, Ok, Err, IfErr}
+use Rattle.std.proofs.Common.{◌≡◌, ◌++◌, get_or, refl, List, sym, ap, subst, ◌∙◌, arith, Result, Err, IfErr}
 use Rattle.std.proofs.lemmas.Result.{err_from_is_err_and}
 use Rattle.loom_active.specs.declared.live.LiveSet.{LiveSet}
 use Rattle.loom_active.specs.declared.stop.ActiveStop.{ActiveStop}
@@ -7,7 +7,7 @@ use Rattle.loom_active.specs.LiveStops.{IsLiveStop}
 use Rattle.loom_active.specs.declared.terminals.Terminal.{Terminal}
 use Rattle.std.specs.List.{filter_map}
 use Rattle.loom_active.specs.FoundSets.{set_of}
-use Rattle.loom_active.proofs.SetSteps.{found-init, terminals-few, whens-has, found-stop, found-many, found-next, found-sets, found-fit, found-stands}
+use Rattle.loom_active.proofs.SetSteps.{terminals-few, whens-has, found-stop, found-many, found-next, found-sets, found-fit}
 use Rattle.loom_active.proofs.live.sets_of.Goals as goal
 
 pub patterns_of-requires-clause-whens : goal.patterns_of-requires-clause-whens

@@ -1,8 +1,8 @@
 -- Each terminal splits the patterns.
-use Rattle.std.proofs.Common.{◌≡◌, ℕ, ◌<◌, List, [], ◌∷◌, ◌++◌, length, get_or, sym, ap, subst, ◌∙◌, arith, Result, Ok, Err}
+use Rattle.std.proofs.Common.{◌≡◌, ℕ, ◌<◌, List, [], ◌∷◌, ◌++◌, length, get_or, sym, ap, subst, ◌∙◌, Result, Ok, Err}
 use Rattle.std.proofs.lemmas.List.{get_or_default}
 use Rattle.std.proofs.lemmas.Result.{err_from_is_err_and}
-use Rattle.loom_rows.specs.declared.cond.Cond.{Cond, Never}
+use Rattle.loom_rows.specs.declared.cond.Cond.{Never}
 use Rattle.loom_rows.specs.declared.stop.RowsStop.{RowsStop}
 use Rattle.loom_rows.specs.Condition.{value}
 use Rattle.loom_rows.specs.Leftovers.{Works}
@@ -11,7 +11,7 @@ use Rattle.loom_active.specs.declared.terminals.Terminal.{Terminal}
 use Rattle.loom_active.specs.LiveWork.{signs_worked}
 use Rattle.loom_active.specs.Patterns.{AreJoinedWith, HasEach, LeaveRoom, joined_worked}
 use Rattle.loom_active.specs.Terminals.{whens_of}
-use Rattle.loom_active.proofs.PatternSteps.{unsigned, patterns-init, when-has, room-low, room-high, bit-small, each-kept1, each-kept2, when-kept2, patterns-stop1, patterns-stop2, patterns-stop3, patterns-no_memory, patterns-next, patterns-done, patterns-works}
+use Rattle.loom_active.proofs.PatternSteps.{unsigned, patterns-init, when-has, room-low, room-high, each-kept1, each-kept2, when-kept2, patterns-stop1, patterns-stop2, patterns-stop3, patterns-no_memory, patterns-next, patterns-done, patterns-works}
 use Rattle.loom_active.proofs.patterns.patterns_of.Goals as goal
 
 abbrev item : List Terminal → ℕ → Terminal

@@ -1,5 +1,5 @@
 -- Each net's terminals are worked out in turn.
-use Rattle.std.proofs.Common.{List, sym, ap, subst, ◌∙◌, arith, Result, Ok, Err}
+use Rattle.std.proofs.Common.{List, sym, ap, subst, ◌∙◌, arith, Result, Err}
 use Rattle.std.proofs.lemmas.Result.{err_from_is_err_and}
 use Rattle.loom_rows.specs.declared.stop.RowsStop.{RowsStop}
 use Rattle.loom_rows.specs.Condition.{value}
@@ -7,7 +7,7 @@ use Rattle.loom_rows.specs.Leftovers.{Works}
 use Rattle.loom_rows.proofs.Outcomes.{keeps}
 use Rattle.loom_active.specs.declared.terminals.Terminal.{Terminal}
 use Rattle.loom_active.specs.LiveWork.{terminals_worked}
-use Rattle.loom_active.proofs.TerminalSteps.{nets-init, net-stop, net-no_memory, net-next, nets-works}
+use Rattle.loom_active.proofs.TerminalSteps.{net-stop, net-no_memory, net-next, nets-works}
 use Rattle.loom_active.proofs.terminals.terminals_of.Goals as goal
 
 pub terminals_of_net-requires-clause-has : goal.terminals_of_net-requires-clause-has

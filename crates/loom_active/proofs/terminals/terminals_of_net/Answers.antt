@@ -14,7 +14,7 @@ use Rattle.loom_rows.specs.Leftovers.{AreSame, Works}
 use Rattle.loom_rows.specs.Formulas.{worked_of, meaning_of}
 use Rattle.loom_active.specs.declared.terminals.Terminal.{Terminal}
 use Rattle.loom_active.specs.LiveWork.{terminal_worked}
-use Rattle.loom_active.proofs.TerminalSteps.{drafts_of, terminals-init, terminal-has, terminal-has2, terminal-stop1, terminal-stop2, terminal-no_memory, terminal-next, terminals-done, terminals-works}
+use Rattle.loom_active.proofs.TerminalSteps.{drafts_of, terminal-has2, terminal-stop1, terminal-stop2, terminal-no_memory, terminal-next, terminals-done, terminals-works}
 use Rattle.loom_active.proofs.terminals.terminals_of_net.Goals as goal
 
 drafts_length : (draft : Draft) (net : ℕ) (cavities : List CavityNo) → map (λ c. c.0) cavities ≡ cavities_of draft net → length cavities ≡ length (drafts_of draft net)

@@ -9,7 +9,7 @@ pub returns-in_err-node-clause-gives : goal.returns-in_err-node-clause-gives
 unfolding cavities_check
 returns-in_err-node-clause-gives c =
     let p = err_from_is_err_and c.from_residual-in_err-node.result c.from_residual-in_err-node.ensures.1 in
-    rw (p.1, p.2) (λ fresh. list_stops _ _ _ _ _ _ c.in_ok-at_most.ensures.check c.cavity-item.is c.loop-cavity-test.true c.loop-cavity.invariant.passed
+    rw (p.1, p.2) (λ fresh. list_stops _ _ _ _ _ _ c.in_ok-within_limit.ensures.check c.cavity-item.is c.loop-cavity-test.true c.loop-cavity.invariant.passed
     (rw (← c.loop-cavity.invariant.names) (c.in_err-node.ensures.gives fresh)))
 
 pub loop-cavity-preserved : goal.loop-cavity-preserved

@@ -10,7 +10,7 @@ pub returns-in_err-add-clause-answers : goal.returns-in_err-add-clause-answers
 unfolding rules_check
 returns-in_err-add-clause-answers c =
     let p = err_from_is_err_and c.from_residual-in_err-add.result c.from_residual-in_err-add.ensures.1 in
-    rw (p.1, p.2) (list_stops _ _ _ _ _ _ c.in_ok-at_most.ensures.check c.rule-item.is c.loop-rule-test.true c.loop-rule.invariant.passed
+    rw (p.1, p.2) (list_stops _ _ _ _ _ _ c.in_ok-within_limit.ensures.check c.rule-item.is c.loop-rule-test.true c.loop-rule.invariant.passed
     (rw (← c.loop-rule.invariant.counted) (sym c.in_err-add.ensures.check)))
 
 pub loop-rule-preserved : goal.loop-rule-preserved

@@ -11,7 +11,7 @@ pub returns-in_err-checked_net-clause-gives : goal.returns-in_err-checked_net-cl
 unfolding nets_check
 returns-in_err-checked_net-clause-gives c =
     let p = err_from_is_err_and c.from_residual-in_err-checked_net.result c.from_residual-in_err-checked_net.ensures.1 in
-    rw (p.1, p.2) (λ fresh. list_stops _ _ _ _ _ _ c.in_ok-at_most.ensures.check c.net-item.is c.loop-net-test.true c.loop-net.invariant.passed
+    rw (p.1, p.2) (λ fresh. list_stops _ _ _ _ _ _ c.in_ok-within_limit.ensures.check c.net-item.is c.loop-net-test.true c.loop-net.invariant.passed
     (rw (← c.loop-net.invariant.counted, ← c.loop-net.invariant.taken) (c.in_err-checked_net.ensures.gives fresh)))
 
 pub loop-net-preserved : goal.loop-net-preserved

@@ -11,7 +11,7 @@ pub returns-in_err-checked_terminal-clause-gives : goal.returns-in_err-checked_t
 unfolding terminals_check
 returns-in_err-checked_terminal-clause-gives c =
     let p = err_from_is_err_and c.from_residual-in_err-checked_terminal.result c.from_residual-in_err-checked_terminal.ensures.1 in
-    rw (p.1, p.2, ← c.as_slice-terminals.ensures) (λ fresh. then_passes _ _ (sym c.in_ok-at_most.ensures.check)
+    rw (p.1, p.2, ← c.as_slice-terminals.ensures) (λ fresh. then_passes _ _ (sym c.in_ok-within_limit.ensures.check)
     ∙ list_stops _ _ _ _ _ _ c.in_ok-require.ensures c.index-terminals-i.is c.loop-i-test.true c.loop-i.invariant.passed
     (rw (← c.loop-i.invariant.counted) c.in_err-checked_terminal.ensures.answers))
 

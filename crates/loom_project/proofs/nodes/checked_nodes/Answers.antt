@@ -11,12 +11,12 @@ pub returns-in_err-check_node-clause-gives : goal.returns-in_err-check_node-clau
 unfolding nodes_check
 returns-in_err-check_node-clause-gives c =
     let p = err_from_is_err_and c.from_residual-in_err-check_node.result c.from_residual-in_err-check_node.ensures.1 in
-    rw (p.1, p.2) (λ fresh. list_stops _ _ _ _ _ _ c.in_ok-at_most.ensures.check c.node-item.is c.loop-node-test.true c.loop-node.invariant.passed
+    rw (p.1, p.2) (λ fresh. list_stops _ _ _ _ _ _ c.in_ok-within_limit.ensures.check c.node-item.is c.loop-node-test.true c.loop-node.invariant.passed
     (rw (← c.loop-node.invariant.names) (c.in_err-check_node.ensures.gives fresh)))
 
 pub label_number-requires : goal.label_number-requires
 label_number-requires c =
-    rw c.loop-node.invariant.harnesses (omega (arith, length-harnesses c.args.nodes.now c.loop-node.node-index, c.in_ok-at_most.ensures.within))
+    rw c.loop-node.invariant.harnesses (omega (arith, length-harnesses c.args.nodes.now c.loop-node.node-index, c.in_ok-within_limit.ensures.within))
 
 pub loop-node-preserved : goal.loop-node-preserved
 loop-node-preserved c = record {

@@ -12,6 +12,6 @@ unfolding options_check
 returns-in_err-require-clause-gives c =
     let p = err_from_is_err_and c.from_residual-in_err-require.result c.from_residual-in_err-require.ensures.1 in
     let name = c.name-item.result in
-    rw (p.1, p.2) (λ fresh. list_stops _ _ _ _ _ _ c.in_ok-at_most.ensures.check c.name-item.is c.loop-name-test.true c.loop-name.invariant.passed
+    rw (p.1, p.2) (λ fresh. list_stops _ _ _ _ _ _ c.in_ok-within_limit.ensures.check c.name-item.is c.loop-name-test.true c.loop-name.invariant.passed
     (ap (λ names. not_repeated of.OptionName names name) (sym c.loop-name.invariant.options)
     ∙ ap (λ b. require b (RepeatedName of.OptionName name)) (sym c.in_ok-is_new.ensures.answer) ∙ sym c.in_err-require.ensures))

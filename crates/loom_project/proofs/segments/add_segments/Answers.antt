@@ -12,7 +12,7 @@ pub returns-in_err-from-clause-gives : goal.returns-in_err-from-clause-gives
 unfolding segments_check
 returns-in_err-from-clause-gives c =
     let p = err_from_is_err_and c.from_residual-in_err-from.result c.from_residual-in_err-from.ensures.1 in
-    rw (p.1, p.2) (λ fresh. list_stops _ _ _ _ _ _ c.in_ok-at_most.ensures.check c.segment-item.is c.loop-segment-test.true c.loop-segment.invariant.passed
+    rw (p.1, p.2) (λ fresh. list_stops _ _ _ _ _ _ c.in_ok-within_limit.ensures.check c.segment-item.is c.loop-segment-test.true c.loop-segment.invariant.passed
     (rw (← c.loop-segment.invariant.taken) (c.in_err-from.ensures.gives fresh)))
 
 pub loop-segment-preserved : goal.loop-segment-preserved
