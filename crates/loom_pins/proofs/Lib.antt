@@ -1,0 +1,4 @@
+pub mod Fitted
+pub mod Outcomes
+pub mod Links
+pub mod ReservedPins

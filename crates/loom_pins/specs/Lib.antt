@@ -1,0 +1,3 @@
+pub mod FirstFit
+pub mod Holders
+pub mod Laws
