@@ -1,0 +1,4 @@
+pub mod Findings
+pub mod Judged
+pub mod Tallies
+pub mod Watched
