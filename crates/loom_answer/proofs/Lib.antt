@@ -1,2 +1,4 @@
 pub mod FaultsWithoutFloats
+pub mod StopNames
+pub mod StopsWithoutFloats
 pub mod WithoutFloats

@@ -28,7 +28,10 @@ use Rattle.loom_project.specs.declared.draft.SegmentDraft.{SegmentDraft}
 use Rattle.loom_project.specs.declared.draft.CavityDraft.{CavityDraft}
 use Rattle.loom_project.specs.declared.draft.NetDraft.{NetDraft}
 use Rattle.loom_project.specs.declared.draft.TerminalDraft.{TerminalDraft}
+use Rattle.loom_rules.specs.declared.finding.Finding.{Finding}
+use Rattle.loom_rules.specs.declared.report.Report.{Report}
 use Rattle.loom_answer.specs.Answer.{answer_of}
+use Rattle.loom_answer.specs.Reports.{finding_shown, report_shown}
 use Rattle.loom_answer.specs.Plans.{row_shown, step_shown, set_shown, cell_shown, mask_shown, cells_shown, table_shown, pin_shown, module_shown, plan_shown}
 use Rattle.loom_answer.specs.Projects.{formula_step, formula_shown, node_shown, kind_shown, segment_draft_shown, cavity_shown, terminal_shown, net_shown, project_shown}
 use Rattle.loom_json.specs.Fields.{array_of}
@@ -225,15 +228,26 @@ project_plain draft =
     (add_list (codes "cavities") cavity_shown cavity_plain draft.cavities
     none)))))).plain
 
-answer_plain : (plan : Plan) (draft : Draft) → has_float (answer_of plan draft) ≡ false
-answer_plain plan draft =
+finding_plain : (found : Finding) → has_float (finding_shown found) ≡ false
+finding_plain found = numbers_plain (found.first ∷ found.second ∷ found.third ∷ [])
+
+report_plain : (report : Report) → has_float (report_shown report) ≡ false
+report_plain report =
+    (add_whole (codes "limit") report.limit
+    (add_whole (codes "kind") report.kind
+    (add_list (codes "findings") finding_shown finding_plain report.findings
+    none))).plain
+
+answer_plain : (plan : Plan) (draft : Draft) (reports : List Report) → has_float (answer_of plan draft reports) ≡ false
+answer_plain plan draft reports =
     (add_whole (codes "version") 1
-    (add (codes "reports") (array_of []) refl
+    (add_list (codes "reports") report_shown report_plain reports
     (add (codes "project") (project_shown draft) (project_plain draft)
     (add (codes "plan") (plan_shown plan) (plan_plain plan)
     (add (codes "outcomes") (array_of []) refl
     none))))).plain
 
 -- a value that is an answer has no float
-pub plain_answer : (d : Data) (plan : Plan) (draft : Draft) → d ≡ answer_of plan draft → has_float d ≡ false
-plain_answer d plan draft is = ap has_float is ∙ answer_plain plan draft
+pub plain_answer : (d : Data) (plan : Plan) (draft : Draft) (reports : List Report) → d ≡ answer_of plan draft reports
+    → has_float d ≡ false
+plain_answer d plan draft reports is = ap has_float is ∙ answer_plain plan draft reports

@@ -51,7 +51,7 @@ fn limit_name(which: Which) -> &'static str
 }
 
 /// The members of an object that has its kind alone.
-fn of_kind(alloc: Global, kind: &str) -> Result<Map<String, Value>, NoMemory>
+pub(crate) fn of_kind(alloc: Global, kind: &str) -> Result<Map<String, Value>, NoMemory>
     ensures { IfOk result (λ made. members_view made.entries ≡ of_kind kind.now) }
 {
     let kind = text(alloc, kind)?;
@@ -115,7 +115,7 @@ fn reserved_pin(alloc: Global, segment: &Name, pin: u16) -> Result<Value, NoMemo
 }
 
 /// The object of a limit that is passed: its kind, the name of what is limited, and the count.
-fn limit_value(alloc: Global, which: Which, count: u64) -> Result<Value, NoMemory>
+pub(crate) fn limit_value(alloc: Global, which: Which, count: u64) -> Result<Value, NoMemory>
     ensures { IfOk result (λ value. view value ≡ limit_shown which count) }
 {
     let name = text(alloc, limit_name(which))?;

@@ -6,27 +6,14 @@ ghost use Rattle.loom_formula.specs.Formula.{members_of};
 ghost use Rattle.loom_json.specs.Fields.{array_of};
 ghost use Rattle.loom_answer.specs.Projects.{formula_shown, node_shown, run_shown, coupler_shown, segment_draft_shown, cavity_shown, terminal_shown, net_shown, project_shown};
 
-use crate::values::whole;
-use loom_base::{Name, NoMemory, Pins, Price};
+use crate::values::{NameShown, whole};
+use loom_base::{NoMemory, Pins, Price};
 use loom_formula::{Formula, Members};
 use loom_json::shown::{self, Shown, array, with};
 use loom_project::{CavityDraft, Draft, NetDraft, NodeDraft, SegmentDraft, TerminalDraft};
 use loom_topology::Kind;
 use serde_json::{Map, Value};
 use std::alloc::Global;
-
-/// Shows a name.
-struct NameShown;
-
-impl Shown for NameShown {
-    type Of = Name;
-
-    ghost shows = { string };
-
-    fn value(alloc: Global, name: &Name) -> Result<Value, NoMemory> {
-        shown::name(alloc, name)
-    }
-}
 
 /// The value of a formula.
 #[cycle(showing)]

@@ -1,9 +1,10 @@
 //! The leaves of what is printed.
 ghost use Rattle.std.specs.Prelude.{◌≡◌, ◌++◌, ◌∷◌, [], map, take, IfOk};
+ghost use Rattle.serde_json.specs.Data.{string};
 ghost use Rattle.serde_json.specs.View.{view};
 ghost use Rattle.loom_answer.specs.Values.{numbers as numbers_of, tagged as tagged_of, whole};
 
-use loom_base::NoMemory;
+use loom_base::{Name, NoMemory};
 use loom_json::shown::{self, Shown};
 use serde_json::Value;
 use std::alloc::Global;
@@ -13,6 +14,19 @@ pub(crate) fn whole(n: u64) -> Value
     ensures { view result ≡ whole n }
 {
     Value::from(n)
+}
+
+/// Shows a name.
+pub(crate) struct NameShown;
+
+impl Shown for NameShown {
+    type Of = Name;
+
+    ghost shows = { string };
+
+    fn value(alloc: Global, name: &Name) -> Result<Value, NoMemory> {
+        shown::name(alloc, name)
+    }
 }
 
 /// Shows a whole number of 32 bits.
