@@ -1,0 +1,10 @@
+pub mod Built
+pub mod Degrees
+pub mod FirstLines
+pub mod FoundWires
+pub mod Grouping
+pub mod Laws
+pub mod Stops
+pub mod Threads
+pub mod WireTotals
+pub mod Wires
