@@ -1,0 +1,15 @@
+pub mod KeyLemmas
+pub mod CopiedLemmas
+pub mod Growing
+pub mod KeptTrue
+pub mod Sums
+pub mod Filling
+pub mod LiveNets
+pub mod LaidLemmas
+pub mod LaidSteps
+pub mod Together
+pub mod LiveKeys
+pub mod LayoutsKept
+pub mod LayoutsTrue
+pub mod KeptSets
+pub mod LiveSetLists
