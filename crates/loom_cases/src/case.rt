@@ -1,4 +1,3 @@
-use crate::form;
 use crate::form::Form;
 use anyhow::{Context, Result};
 use loom_base::List;
@@ -23,75 +22,79 @@ pub struct Case {
     pub wanted: Wanted,
 }
 
-/// The name of a file of a case.
-fn path_of(alloc: Global, name: &str, part: &str) -> Result<String, AllocError> {
-    format!(in alloc; "{name}.{part}")
+/// The parts of a case's text.
+#[derive(Clone, Copy)]
+struct Parts<'t> {
+    /// What is said of the run, line by line.
+    said: &'t str,
+    document: &'t str,
+    /// All that is to be written.
+    line: &'t str,
 }
 
-fn read_bytes(rt: &HostRuntime, name: &str, part: &str) -> Result<Vec<u8>> {
-    let path = path_of(rt.alloc(), name, part)?;
-    fs::read(rt, path.as_str()).context(format_args!("reading {path}"))
+/// The parts of a text: what stands before the line `--- document`, what stands between it and the
+/// line `--- line`, and what stands behind that.
+fn parts_of(text: &str) -> Result<Parts<'_>> {
+    let (said, rest) = text
+        .split_once("--- document\n")
+        .context("no line `--- document`")?;
+    let (document, line) = rest
+        .split_once("\n--- line\n")
+        .context("no line `--- line`")?;
+    Ok(Parts {
+        said,
+        document,
+        line,
+    })
 }
 
-fn read_text(rt: &HostRuntime, name: &str, part: &str) -> Result<String> {
-    let path = path_of(rt.alloc(), name, part)?;
-    fs::read_to_string(rt, path.as_str()).context(format_args!("reading {path}"))
-}
-
-/// The lines of a text.
-fn lines_of(alloc: Global, text: &str) -> Result<Vec<String>> {
-    let mut lines = Vec::new(alloc);
-    for line in text.lines() {
-        lines.push(String::from_str(alloc, line)?)?;
+/// The words of a run: those of the lines `word W`.
+fn words_of(alloc: Global, said: &str) -> Result<Vec<String>, AllocError> {
+    let mut words = Vec::new(alloc);
+    for line in said.lines() {
+        if let Some(word) = line.strip_prefix("word ") {
+            words.push(String::from_str(alloc, word)?)?;
+        }
     }
-    Ok(lines)
+    Ok(words)
 }
 
-/// The form that a case gives its objects, which is the steady one where it says nothing of them.
-fn read_form(rt: &HostRuntime, name: &str) -> Result<Form> {
-    let path = path_of(rt.alloc(), name, "objects")?;
-    if fs::exists(rt, path.as_str())? {
-        let text = read_text(rt, name, "objects")?;
-        form::parse(rt.alloc(), text.as_str())
-    } else {
-        form::parse(rt.alloc(), "")
-    }
+/// The bytes of a text.
+fn bytes_of(alloc: Global, text: &str) -> Result<Vec<u8>, AllocError> {
+    let mut bytes = Vec::new(alloc);
+    bytes.extend_from_slice(text.as_bytes())?;
+    Ok(bytes)
 }
 
 /// So many blanks.
-fn blanks(alloc: Global, count: u64) -> Result<Vec<u8>> {
+fn blanks(alloc: Global, count: u64) -> Result<Vec<u8>, AllocError> {
     let mut blanks = Vec::new(alloc);
     blanks.resize(count as usize, b' ')?;
     Ok(blanks)
 }
 
-fn read_document(rt: &HostRuntime, name: &str, form: &Form) -> Result<List<u8>> {
+/// The bytes of the source.
+fn document_of(alloc: Global, document: &str, form: &Form) -> Result<List<u8>, AllocError> {
     let bytes = match form.blanks {
-        Some(count) => blanks(rt.alloc(), count)?,
-        None => read_bytes(rt, name, "document")?,
+        Some(count) => blanks(alloc, count)?,
+        None => bytes_of(alloc, document)?,
     };
     Ok(List::from_vec(bytes))
 }
 
-fn read_wanted(rt: &HostRuntime, name: &str) -> Result<Wanted> {
-    let status = read_text(rt, name, "status")?;
-    Ok(Wanted {
-        status: status
-            .trim()
-            .parse::<u8>()
-            .context(format_args!("reading the status of {name}"))?,
-        line: read_bytes(rt, name, "line")?,
-    })
-}
-
-/// The case of a name, from its files.
-pub fn read(rt: &HostRuntime, name: &str) -> Result<Case> {
-    let words = read_text(rt, name, "words")?;
-    let form = read_form(rt, name)?;
+/// The case of a file.
+pub fn read(rt: &HostRuntime, path: &str) -> Result<Case> {
+    let alloc = rt.alloc();
+    let text = fs::read_to_string(rt, path).context(format_args!("reading {path}"))?;
+    let parts = parts_of(text.as_str()).context(format_args!("reading {path}"))?;
+    let form = Form::of(alloc, parts.said).context(format_args!("reading {path}"))?;
     Ok(Case {
-        words: lines_of(rt.alloc(), words.as_str())?,
-        document: read_document(rt, name, &form)?,
+        words: words_of(alloc, parts.said)?,
+        document: document_of(alloc, parts.document, &form)?,
+        wanted: Wanted {
+            status: form.status,
+            line: bytes_of(alloc, parts.line)?,
+        },
         form,
-        wanted: read_wanted(rt, name)?,
     })
 }

@@ -1,9 +1,10 @@
 //! Runs the cases that lie in the folder where it runs, prints for each whether it went as wanted,
 //! and fails where one didn't.
 //!
-//! A case NAME is the files `NAME.words` (the words after the program's name, one a line),
-//! `NAME.document` (the bytes of the source), `NAME.line` (all that is to be written) and
-//! `NAME.status` (the number of the status); a file `NAME.objects` gives it another source or sink.
+//! A case is the file `NAME.case`: lines `word W` with the words after the program's name and a line
+//! `status N` with the number of the status; then, below a line `--- document`, the bytes of the
+//! source, and below a line `--- line` all that is to be written. Further lines above give the run
+//! another source or sink, or design rules.
 #![tactic(auto)]
 
 mod case;
@@ -20,7 +21,7 @@ fn case_names(rt: &HostRuntime) -> Result<Vec<String>> {
     let mut names = Vec::new(rt.alloc());
     for entry in fs::read_dir(rt, ".")? {
         let entry = entry?;
-        if let Some(name) = entry.file_name().strip_suffix(".words") {
+        if let Some(name) = entry.file_name().strip_suffix(".case") {
             names.push(String::from_str(rt.alloc(), name)?)?;
         }
     }
@@ -32,7 +33,8 @@ fn case_names(rt: &HostRuntime) -> Result<Vec<String>> {
 fn run_all(rt: &HostRuntime, names: &[String]) -> Result<bool> {
     let mut all_as_wanted = true;
     for name in names {
-        let case = case::read(rt, name.as_str())?;
+        let path = format!(in rt.alloc(); "{name}.case")?;
+        let case = case::read(rt, path.as_str())?;
         let verdict = judge::judge(rt.alloc(), case)?;
         println!(rt; "{name}: {verdict}")?;
         if verdict != Verdict::AsWanted {

@@ -15,7 +15,14 @@ use Rattle.loom_reader.specs.declared.fault.ReadFault.TheVariants as faults
 use Rattle.loom_reader.specs.declared.fault.ReadFault.TheVariants.{NotJson}
 use Rattle.loom_reader.specs.declared.outline.Outline.{Outline}
 use Rattle.loom_reader.specs.Document.{document_of, shaped, checked, outline_form}
-use Rattle.loom_top.specs.Plannable.{IsPlannable, HasChoices, is_plain}
+use Rattle.loom_types.specs.declared.stop.PlanStop.{PlanStop}
+use Rattle.loom_types.specs.declared.stop.PlanStop.TheVariants as stops
+use Rattle.loom_rules.specs.Judged.{Asked}
+use Rattle.loom_answer.specs.Stops.{IsNameable, named_of}
+use Rattle.loom_answer.specs.declared.named_stop.NamedStop.{NamedStop}
+use Rattle.loom_plan.specs.FirstStop.{FirstStop, HasPlan}
+use Rattle.loom_plan.specs.StopsLaw.{PlanExcludesStops}
+use Rattle.loom_project.specs.declared.draft.Draft.{Draft}
 use Rattle.loom_top.specs.Refusals.{IsCause, refusal_shown}
 use Rattle.loom_top.specs.Replies.{IsRead, Accepts, Refuses, IsRefused, IsReply}
 use Rattle.loom_top.specs.declared.reply.Reply.{Reply}
@@ -70,81 +77,84 @@ document_is_no_fault : (document : Document) (fault : ReadFault) → Ok document
 document_is_no_fault document fault h = absurd (cc)
 
 -- what a refusal's line replies to
-pub reply_refuses : (input line : List ℕ) (is_done : Bool) (refusal : Refusal) → Refuses input refusal
-    → is_done ≡ false → line ≡ line_of (refusal_shown refusal) → IsReply input is_done line
-reply_refuses input line is_done refusal refused not_done line_is =
-    let declines : IsReply input false line = record { refusal = refusal; refused = refused; line_is = line_is } in
-    subst (λ (b : Bool). IsReply input b line) (sym not_done) declines
+pub reply_refuses : (rules : List Asked) (input line : List ℕ) (is_done : Bool) (refusal : Refusal) → Refuses input refusal
+    → is_done ≡ false → line ≡ line_of (refusal_shown refusal) → IsReply rules input is_done line
+reply_refuses rules input line is_done refusal refused not_done line_is =
+    let declines : IsReply rules input false line = record { refusal = refusal; refused = refused; line_is = line_is } in
+    subst (λ (b : Bool). IsReply rules input b line) (sym not_done) declines
 
 -- the reply that refuses bytes
-pub bytes_refused : {E : Type 0} (input : List ℕ) (refusal : Refusal) (result : Result Reply E) → Refuses input refusal
+pub bytes_refused : {E : Type 0} (rules : List Asked) (input : List ℕ) (refusal : Refusal) (result : Result Reply E) → Refuses input refusal
     → IfOk result (λ reply. reply.is_done ≡ false) → IfOk result (λ reply. reply.line ≡ line_of (refusal_shown refusal))
-    → IfOk result (λ reply. IsReply input reply.is_done reply.line)
-bytes_refused input refusal (Ok reply) refused not_done line_is =
-    reply_refuses input reply.line reply.is_done refusal refused not_done line_is
-bytes_refused input refusal (Err e) refused not_done line_is = _
+    → IfOk result (λ reply. IsReply rules input reply.is_done reply.line)
+bytes_refused rules input refusal (Ok reply) refused not_done line_is =
+    reply_refuses rules input reply.line reply.is_done refusal refused not_done line_is
+bytes_refused rules input refusal (Err e) refused not_done line_is = _
 
 -- the reply that refuses a document
-pub document_refused : {E : Type 0} (document : Document) (refusal : Refusal) (result : Result Reply E) → IsRefused document refusal
+pub document_refused : {E : Type 0} (rules : List Asked) (document : Document) (refusal : Refusal) (result : Result Reply E) → IsRefused document refusal
     → IfOk result (λ reply. reply.is_done ≡ false) → IfOk result (λ reply. reply.line ≡ line_of (refusal_shown refusal))
-    → IfOk result (λ reply. (input : List ℕ) → IsRead input document → IsReply input reply.is_done reply.line)
-document_refused document refusal (Ok reply) refused not_done line_is = λ input read.
-    reply_refuses input reply.line reply.is_done refusal (Refuses.not_planned document read refusal refused) not_done line_is
-document_refused document refusal (Err e) refused not_done line_is = _
+    → IfOk result (λ reply. (input : List ℕ) → IsRead input document → IsReply rules input reply.is_done reply.line)
+document_refused rules document refusal (Ok reply) refused not_done line_is = λ input read.
+    reply_refuses rules input reply.line reply.is_done refusal (Refuses.not_planned document read refusal refused) not_done line_is
+document_refused rules document refusal (Err e) refused not_done line_is = _
+
+-- the same whichever rules there are
+pub document_refused_any : {E : Type 0} (document : Document) (refusal : Refusal) (result : Result Reply E) → IsRefused document refusal
+    → IfOk result (λ reply. reply.is_done ≡ false) → IfOk result (λ reply. reply.line ≡ line_of (refusal_shown refusal))
+    → IfOk result (λ reply. (rules : List Asked) (input : List ℕ) → IsRead input document → IsReply rules input reply.is_done reply.line)
+document_refused_any document refusal (Ok reply) refused not_done line_is = λ rules input read.
+    reply_refuses rules input reply.line reply.is_done refusal (Refuses.not_planned document read refusal refused) not_done line_is
+document_refused_any document refusal (Err e) refused not_done line_is = _
+
+-- want of memory has no name
+nameable_stop : (draft : Draft) (stop : PlanStop) → stop ≡ stops.NoMemory → IsNameable draft stop → ⊥
+nameable_stop draft stop e nameable = subst (IsNameable draft) e nameable
+
+-- a document without edits whose planning stops is refused by the stop's name
+pub stops_planning : (document : Document) (count : ℕ) (stop : PlanStop) (named : NamedStop) → document.edit_count ≡ count → count ≡ 0
+    → FirstStop document.project stop → IsNameable document.project stop → named ≡ named_of document.project stop → IsRefused document (refusals.Plan named)
+stops_planning document count stop named counted none is nameable same = (counted ∙ none, (stop, is, nameable, same))
 
 -- a document with a plan isn't refused
-not_refused : (document : Document) → IsPlannable document → HasChoices document.project → (refusal : Refusal) → IsRefused document refusal → ⊥
-not_refused document plannable choices NotBuilt unplannable = unplannable plannable
-not_refused document plannable choices (refusals.Limit which count) (form, is_rows, counted, many) = choices.few_rows many
-not_refused document plannable choices refusals.NoChoice (form, none, few) = none choices.some_choice.0 choices.some_choice.1
-not_refused document plannable choices TooLong refused = refused
-not_refused document plannable choices refusals.NotJson refused = refused
-not_refused document plannable choices (refusals.WrongShape path) refused = refused
-not_refused document plannable choices (refusals.Project fault) refused = refused
+not_refused : PlanExcludesStops → (document : Document) → document.edit_count ≡ 0 → HasPlan document.project → (refusal : Refusal) → IsRefused document refusal → ⊥
+not_refused law document unedited plan NotBuilt edited = absurd (omega (arith, edited, unedited))
+not_refused law document unedited plan (refusals.Plan stop) (none, (first, is, nameable, same)) =
+    nameable_stop document.project first (law document.project first plan is) nameable
+not_refused law document unedited plan TooLong refused = refused
+not_refused law document unedited plan refusals.NotJson refused = refused
+not_refused law document unedited plan (refusals.WrongShape path) refused = refused
+not_refused law document unedited plan (refusals.Project fault) refused = refused
 
 -- an input that is accepted isn't refused
-accepted_not_refused : (input : List ℕ) (refusal : Refusal) → Accepts input → Refuses input refusal → ⊥
-accepted_not_refused input refusal accepted (Refuses.too_long long) = absurd (omega (arith, long, accepted.read.short))
-accepted_not_refused input refusal accepted (Refuses.not_json short none) =
+accepted_not_refused : PlanExcludesStops → (input : List ℕ) (refusal : Refusal) → Accepts input → Refuses input refusal → ⊥
+accepted_not_refused law input refusal accepted (Refuses.too_long long) = absurd (omega (arith, long, accepted.read.short))
+accepted_not_refused law input refusal accepted (Refuses.not_json short none) =
     let json = json_of input (Ok accepted.document) (document_is_no_fault accepted.document NotJson) accepted.read.document_is in
     absurd (cc)
-accepted_not_refused input refusal accepted (Refuses.not_shaped short path fails) =
+accepted_not_refused law input refusal accepted (Refuses.not_shaped short path fails) =
     document_is_no_fault accepted.document (faults.WrongShape path) (sym accepted.read.document_is ∙ fails)
-accepted_not_refused input refusal accepted (Refuses.not_sound short fault fails) =
+accepted_not_refused law input refusal accepted (Refuses.not_sound short fault fails) =
     document_is_no_fault accepted.document (faults.Project fault) (sym accepted.read.document_is ∙ fails)
-accepted_not_refused input refusal accepted (Refuses.not_planned document read cause refused) =
+accepted_not_refused law input refusal accepted (Refuses.not_planned document read cause refused) =
     let same : document ≡ accepted.document = same_document document accepted.document (document_of input) read.document_is accepted.read.document_is in
     let here : IsRefused accepted.document cause = subst (λ (d : Document). IsRefused d cause) same refused in
-    not_refused accepted.document accepted.plannable accepted.choices cause here
-
--- why a document is refused is no want of memory
-pub refused_by_cause : (document : Document) (refusal : Refusal) → IsRefused document refusal → IsCause refusal
-refused_by_cause document TooLong why = absurd why
-refused_by_cause document refusals.NotJson why = absurd why
-refused_by_cause document (refusals.WrongShape path) why = absurd why
-refused_by_cause document (refusals.Project fault) why = absurd why
-refused_by_cause document NotBuilt why = _
-refused_by_cause document (refusals.Limit which count) why = _
-refused_by_cause document refusals.NoChoice why = _
-
--- a document of another form isn't planned
-pub not_plain : (document : Document) (b : Bool) → b ≡ is_plain document → b ≡ false → IsRefused document NotBuilt
-not_plain document b plain other = λ plannable. let h : false ≡ true = sym other ∙ plain ∙ plannable.plain in cc
+    not_refused law accepted.document accepted.unedited accepted.has_plan cause here
 
 -- more bytes were taken than an input may have
-pub too_long_reply : (left new : Option (List ℕ)) (line : List ℕ) (is_done : Bool) → Takes left new 67108865
-    → is_done ≡ false → line ≡ line_of (refusal_shown TooLong) → IfSome left (λ input. IsReply input is_done line)
-too_long_reply None new line is_done takes not_done line_is = _
-too_long_reply (Some input) new line is_done takes not_done line_is =
-    reply_refuses input line is_done TooLong (Refuses.too_long (omega (arith, takes_known input new 67108865 takes))) not_done line_is
+pub too_long_reply : (rules : List Asked) (left new : Option (List ℕ)) (line : List ℕ) (is_done : Bool) → Takes left new 67108865
+    → is_done ≡ false → line ≡ line_of (refusal_shown TooLong) → IfSome left (λ input. IsReply rules input is_done line)
+too_long_reply rules None new line is_done takes not_done line_is = _
+too_long_reply rules (Some input) new line is_done takes not_done line_is =
+    reply_refuses rules input line is_done TooLong (Refuses.too_long (omega (arith, takes_known input new 67108865 takes))) not_done line_is
 
 -- a reply to an input that is accepted isn't a refusal
-pub reply_accepts : (left : Option (List ℕ)) (input line : List ℕ) (is_done : Bool) → left ≡ Some input → Accepts input
-    → is_done ≡ false → IfSome left (λ input. IsReply input is_done line) → ⊥
-reply_accepts left input line is_done known accepted not_done reply =
-    let told : IsReply input is_done line = subst (λ (l : Option (List ℕ)). IfSome l (λ input. IsReply input is_done line)) known reply in
-    let declines : IsReply input false line = subst (λ (b : Bool). IsReply input b line) not_done told in
-    accepted_not_refused input declines.refusal accepted declines.refused
+pub reply_accepts : PlanExcludesStops → (rules : List Asked) (left : Option (List ℕ)) (input line : List ℕ) (is_done : Bool) → left ≡ Some input → Accepts input
+    → is_done ≡ false → IfSome left (λ input. IsReply rules input is_done line) → ⊥
+reply_accepts law rules left input line is_done known accepted not_done reply =
+    let told : IsReply rules input is_done line = subst (λ (l : Option (List ℕ)). IfSome l (λ input. IsReply rules input is_done line)) known reply in
+    let declines : IsReply rules input false line = subst (λ (b : Bool). IsReply rules input b line) not_done told in
+    accepted_not_refused law input declines.refusal accepted declines.refused
 
 -- what is neither silent, refused nor a fault is done
 pub done_of : (s : Status) → (IsSilent s → ⊥) → (s ≡ status.Refused → ⊥) → (s ≡ status.WriteFault → ⊥) → s ≡ status.Done

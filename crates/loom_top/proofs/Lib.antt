@@ -1,15 +1,3 @@
 pub mod Documents
-pub mod InRange
-pub mod Listed
-pub mod PairJoins
-pub mod PairNeeds
-pub mod PairRoute
-pub mod PairTable
-pub mod PairWire
-pub mod Planned
-pub mod RightPair
-pub mod RightPlans
-pub mod RunsAlone
-pub mod Steps
-pub mod Walk
+pub mod NameableStops
 pub mod Written

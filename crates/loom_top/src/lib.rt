@@ -2,15 +2,11 @@
 #![tactic(auto)]
 
 mod job;
-mod pair;
-mod plannable;
-mod planning;
 mod refusal;
 mod reply;
-mod route;
 mod status;
-mod stop;
-mod way;
+#[cfg(test)]
+mod tests;
 
 pub use job::run;
 pub use status::Status;

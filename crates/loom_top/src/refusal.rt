@@ -6,8 +6,8 @@ ghost use Rattle.loom_answer.specs.Faults.{of_kind};
 ghost use Rattle.std.specs.Prelude.{codes};
 ghost use Rattle.loom_top.specs.Refusals.{IsCause, refusal_object, refusal_shown};
 
-use loom_answer::{limit, project_fault};
-use loom_base::{NoMemory, Which};
+use loom_answer::{NamedStop, project_fault, stop_value};
+use loom_base::NoMemory;
 use loom_json::Path;
 use loom_json::shown::{text, with};
 use loom_project::ProjectFault;
@@ -25,12 +25,10 @@ pub enum Refusal {
     WrongShape { path: Path },
     /// The first reason why the project isn't sound, which is never want of memory.
     Project(ProjectFault),
-    /// The document isn't of a form that is planned today.
+    /// The document has edits, which aren't applied yet.
     NotBuilt,
-    /// A limit of planning is passed; the count is the limit plus one.
-    Limit { which: Which, count: u64 },
-    /// No choice is valid.
-    NoChoice,
+    /// The first stop of planning the project.
+    Plan(NamedStop),
 }
 
 /// The object of a refusal that has nothing but its kind.
@@ -77,8 +75,7 @@ impl Refusal {
             Refusal::WrongShape { path } => wrong_shape(alloc, path),
             Refusal::Project(fault) => project_fault(alloc, fault),
             Refusal::NotBuilt => kind_alone(alloc, "NotBuilt"),
-            Refusal::Limit { which, count } => limit(alloc, *which, *count),
-            Refusal::NoChoice => kind_alone(alloc, "NoChoice"),
+            Refusal::Plan(stop) => stop_value(alloc, stop),
         }
     }
 }

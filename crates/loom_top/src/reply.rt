@@ -1,20 +1,20 @@
 //! The line that answers a document.
-ghost use Rattle.std.specs.Prelude.{◌≡◌, ◌≤◌, ℕ, List, false, IfOk, length};
+ghost use Rattle.std.specs.Prelude.{◌≡◌, ◌≤◌, ◌↔◌, ℕ, List, [], false, map, IfOk, IsTrue, length};
+ghost use Rattle.std.specs.List.{All};
 ghost use Rattle.loom_json.specs.Text.{line_of};
-ghost use Rattle.loom_answer.specs.Answer.{answer_of};
+ghost use Rattle.loom_rules.specs.Judged.{Asked};
+ghost use Rattle.loom_plan.specs.FirstStop.{FirstStop};
 ghost use Rattle.loom_top.specs.Refusals.{IsCause, refusal_shown};
-ghost use Rattle.loom_top.specs.Replies.{IsRead, IsReply};
+ghost use Rattle.loom_top.specs.Replies.{IsAnswer, IsRead, IsReply};
 
-use crate::plannable::has_plain_form;
-use crate::planning::plan_of;
 use crate::refusal::Refusal;
-use crate::stop::Stop;
-use loom_answer::answer;
+use loom_answer::{answer, named};
 use loom_base::{List, NoMemory};
 use loom_json::line;
-use loom_project::Project;
+use loom_plan::plan;
 use loom_reader::{Document, ReadFault, read};
-use loom_types::Plan;
+use loom_rules::{DesignRule, judge};
+use loom_types::{Plan, PlanStop};
 use std::alloc::Global;
 
 /// What is written: the line, and whether it is the answer or a refusal.
@@ -36,39 +36,87 @@ fn refused(alloc: Global, refusal: &Refusal) -> Result<Reply, NoMemory>
     })
 }
 
-/// The line of a plan and its project.
-fn plan_line(alloc: Global, plan: &Plan, project: &Project) -> Result<List<u8>, NoMemory>
-    ensures { IfOk result (λ line. line ≡ line_of (answer_of plan.now project.now)) }
+/// The line of a plan, its project and what the rules report of its wires.
+fn plan_line(
+    alloc: Global,
+    plan: &Plan,
+    document: &Document,
+    rules: &mut Vec<Box<dyn DesignRule>>,
+) -> Result<List<u8>, NoMemory>
+    requires few { length plan.now.wires ≤ 65536 }
+    requires unseen { All (λ rule. seen_by rule ≡ []) rules.old.items }
+    ensures { IfOk result (IsAnswer
+        (map (λ rule. record { kind = kind_of rule; limit = limit_of rule }) rules.old.items)
+        document.now plan.now) }
 {
-    let value = answer(alloc, plan, project)?;
+    let limits = document.limits.as_slice();
+    let reports = judge(alloc, rules, limits, plan.wires.as_slice())?;
+    let value = answer(alloc, plan, &document.project, reports.as_slice())?;
     line(alloc, &value)
 }
 
-/// The reply to a document that was read.
-fn answered(alloc: Global, document: &Document) -> Result<Reply, NoMemory>
-    ensures { IfOk result (λ reply. (input : List ℕ) → IsRead input document.now
-        → IsReply input reply.is_done reply.line) }
+/// Whether memory ran out.
+fn is_want_of_memory(stop: &PlanStop) -> bool
+    ensures { IsTrue result ↔ (stop.now ≡ PlanStop.NoMemory) }
 {
-    if !has_plain_form(document) {
+    matches!(stop, PlanStop::NoMemory)
+}
+
+/// The reply to a document without edits whose planning stops.
+fn stopped(alloc: Global, document: &Document, stop: &PlanStop) -> Result<Reply, NoMemory>
+    requires unedited { document.now.edit_count ≡ 0 }
+    requires stop { FirstStop document.now.project stop.now }
+    ensures { IfOk result (λ reply. (rules : List Asked) (input : List ℕ)
+        → IsRead input document.now → IsReply rules input reply.is_done reply.line) }
+{
+    if is_want_of_memory(stop) {
+        return Err(NoMemory);
+    }
+    let project = &document.project;
+    project.has_sound_topologies();
+    // The draft is read, so that its soundness is known.
+    let _draft = project.draft();
+    let stop = named(alloc, stop, project)?;
+    refused(alloc, &Refusal::Plan(stop))
+}
+
+/// The reply to a document that was read.
+fn answered(
+    alloc: Global,
+    document: &Document,
+    rules: &mut Vec<Box<dyn DesignRule>>,
+) -> Result<Reply, NoMemory>
+    requires unseen { All (λ rule. seen_by rule ≡ []) rules.old.items }
+    ensures { IfOk result (λ reply. (input : List ℕ) → IsRead input document.now → IsReply
+        (map (λ rule. record { kind = kind_of rule; limit = limit_of rule }) rules.old.items)
+        input reply.is_done reply.line) }
+{
+    if document.edit_count > 0 {
         return refused(alloc, &Refusal::NotBuilt);
     }
-    match plan_of(alloc, document) {
+    match plan(alloc, &document.project) {
         Ok(plan) => Ok(Reply {
             is_done: true,
-            line: plan_line(alloc, &plan, &document.project)?,
+            line: plan_line(alloc, &plan, document, rules)?,
         }),
-        Err(Stop::Refused(refusal)) => refused(alloc, &refusal),
-        Err(Stop::NoMemory) => Err(NoMemory),
+        Err(stop) => stopped(alloc, document, &stop),
     }
 }
 
-/// The reply to an input of at most 67,108,864 bytes.
-pub fn reply_to(alloc: Global, input: &[u8]) -> Result<Reply, NoMemory>
-    requires { length input.now ≤ 67108864 }
-    ensures { IfOk result (λ reply. IsReply input.now reply.is_done reply.line) }
+/// The reply to an input of at most 67,108,864 bytes. The rules are shown the wires of its plan.
+pub fn reply_to(
+    alloc: Global,
+    input: &[u8],
+    rules: &mut Vec<Box<dyn DesignRule>>,
+) -> Result<Reply, NoMemory>
+    requires short { length input.now ≤ 67108864 }
+    requires unseen { All (λ rule. seen_by rule ≡ []) rules.old.items }
+    ensures { IfOk result (λ reply. IsReply
+        (map (λ rule. record { kind = kind_of rule; limit = limit_of rule }) rules.old.items)
+        input.now reply.is_done reply.line) }
 {
     match read(alloc, input) {
-        Ok(document) => answered(alloc, &document),
+        Ok(document) => answered(alloc, &document, rules),
         Err(ReadFault::NotJson) => refused(alloc, &Refusal::NotJson),
         Err(ReadFault::WrongShape { path }) => refused(alloc, &Refusal::WrongShape { path }),
         Err(ReadFault::Project(fault)) => refused(alloc, &Refusal::Project(fault)),

@@ -1,29 +1,28 @@
-use Rattle.loom_top.proofs.Documents.{document_refused, not_plain}
+use Rattle.std.proofs.Common.{arith}
+use Rattle.std.proofs.lemmas.Result.{IfOk-weaker}
+use Rattle.loom_top.proofs.Documents.{document_refused}
 use Rattle.loom_top.specs.declared.refusal.Refusal.TheVariants.{NotBuilt}
 use Rattle.loom_top.proofs.reply.answered.Goals as goal
 
-pub returns-then-not-has_plain_form : goal.returns-then-not-has_plain_form
-returns-then-not-has_plain_form c =
-    document_refused c.args.document.now NotBuilt c.refused.result
-    (not_plain c.args.document.now c.has_plain_form.result c.has_plain_form.ensures c.if-not-has_plain_form.true)
+pub returns-then-document-gt0 : goal.returns-then-document-gt0
+returns-then-document-gt0 g c =
+    document_refused _ c.args.document.now NotBuilt c.refused.result
+    (omega (arith, c.if-document-gt0.true))
     c.refused.ensures.not_done c.refused.ensures.line
 
 pub returns-in_ok-plan_line-in-Ok : goal.returns-in_ok-plan_line-in-Ok
-returns-in_ok-plan_line-in-Ok c = λ input read. record {
+returns-in_ok-plan_line-in-Ok g c = λ input read. record {
   accepted = record {
     document = c.args.document.now;
     read = read;
-    plannable = c.in-Ok.ensures.plannable;
-    choices = c.in-Ok.ensures.choices;
+    unedited = omega (arith, c.if-document-gt0.false);
+    has_plan = c.in-Ok.ensures.has_plan;
   };
   plan = c.in-Ok.plan;
-  planned = c.in-Ok.ensures.planned;
+  planned = c.in-Ok.ensures.plan;
   right = c.in-Ok.ensures.right;
-  line_is = c.in_ok-plan_line-in-Ok.ensures;
+  answer = c.in_ok-plan_line-in-Ok.ensures;
 }
 
-pub returns-in-Err-Refused : goal.returns-in-Err-Refused
-returns-in-Err-Refused c =
-    document_refused c.args.document.now c.in-Err-Refused.refusal c.refused-in-Err-Refused.result
-    (rw c.in-Err-Refused.field-0-is at c.in-Err-Refused.ensures.stop)
-    c.refused-in-Err-Refused.ensures.not_done c.refused-in-Err-Refused.ensures.line
+pub returns-in-Err : goal.returns-in-Err
+returns-in-Err g c = IfOk-weaker c.stopped.result _ _ (λ reply told. told _) c.stopped.ensures
