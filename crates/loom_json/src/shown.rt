@@ -26,7 +26,7 @@ pub trait Shown {
 pub fn array<S: Shown>(alloc: Global, things: &[S::Of]) -> Result<Value, NoMemory>
     ensures { IfOk result (λ value. view value ≡ array_of (map S.shows things.now)) }
 {
-    let mut shown = Vec::new(alloc);
+    let mut shown = Vec::with_capacity(alloc, things.len())?;
     for thing in things {
         shown.push(S::value(alloc, thing)?)?;
     }

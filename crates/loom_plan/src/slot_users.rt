@@ -62,8 +62,8 @@ fn add_set<'a>(
     Ok(())
 }
 
-/// The slots of the layouts of sets, each with the conditions of the sets, set by set, whose layouts
-/// have it.
+/// The slots of the layouts of sets, each with the conditions of the sets, set by set, whose
+/// layouts have it.
 pub(crate) fn users_of_slots<'a>(
     alloc: Global,
     topology: &Topology,

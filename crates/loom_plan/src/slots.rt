@@ -68,7 +68,8 @@ pub(crate) fn slots<'a>(
     requires few { length laid.now ≤ 16384 }
     requires few_steps { steps_of laid.now ≤ 1000000 }
     requires has { All (λ set. Has rows.old set.cond) laid.now }
-    requires conditions { All (λ set. AreSame (value set.cond) (set_live project.now set)) laid.now }
+    requires conditions { All (λ set.
+        AreSame (value set.cond) (set_live project.now set)) laid.now }
     requires sound { IsSound rows.old }
     ensures slots { IfOk result (λ used. AreSlots project.now laid.now (map slot_at used)) }
     ensures usages { IfOk result (λ used.

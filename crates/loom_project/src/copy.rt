@@ -21,6 +21,47 @@ impl Draft {
     }
 }
 
+impl SegmentDraft {
+    /// A segment equal to this one.
+    pub fn copy(&self, alloc: Global) -> Result<SegmentDraft, NoMemory>
+        ensures { IfOk result (λ copy. copy ≡ self.now) }
+    {
+        Ok(SegmentDraft {
+            name: self.name,
+            from: self.from,
+            to: self.to,
+            kind: self.kind,
+            bars: self.bars.copy(alloc)?,
+            reserved: self.reserved.copy(alloc)?,
+        })
+    }
+}
+
+impl TerminalDraft {
+    /// A terminal equal to this one.
+    pub fn copy(&self, alloc: Global) -> Result<TerminalDraft, NoMemory>
+        ensures { IfOk result (λ copy. copy ≡ self.now) }
+    {
+        Ok(TerminalDraft {
+            cavity: self.cavity,
+            when: self.when.copy(alloc)?,
+        })
+    }
+}
+
+impl NetDraft {
+    /// A net equal to this one.
+    pub fn copy(&self, alloc: Global) -> Result<NetDraft, NoMemory>
+        ensures { IfOk result (λ copy. copy ≡ self.now) }
+    {
+        Ok(NetDraft {
+            name: self.name,
+            class: self.class,
+            terminals: copied_terminals(alloc, self.terminals.as_slice())?,
+        })
+    }
+}
+
 #[tactic(auto, using(loom_base::proofs::EachLemmas::each_steps))]
 fn copied_rules(alloc: Global, rules: &[Formula]) -> Result<List<Formula>, NoMemory>
     ensures { IfOk result (λ copies. copies ≡ rules.now) }
@@ -32,26 +73,13 @@ fn copied_rules(alloc: Global, rules: &[Formula]) -> Result<List<Formula>, NoMem
     Ok(copies)
 }
 
-fn copied_segment(alloc: Global, segment: &SegmentDraft) -> Result<SegmentDraft, NoMemory>
-    ensures { IfOk result (λ copy. copy ≡ segment.now) }
-{
-    Ok(SegmentDraft {
-        name: segment.name,
-        from: segment.from,
-        to: segment.to,
-        kind: segment.kind,
-        bars: segment.bars.copy(alloc)?,
-        reserved: segment.reserved.copy(alloc)?,
-    })
-}
-
 #[tactic(auto, using(loom_base::proofs::EachLemmas::each_steps))]
 fn copied_segments(alloc: Global, segments: &[SegmentDraft]) -> Result<List<SegmentDraft>, NoMemory>
     ensures { IfOk result (λ copies. copies ≡ segments.now) }
 {
     let mut copies = List::new(alloc);
     for segment in segments {
-        copies.push(copied_segment(alloc, segment)?)?;
+        copies.push(segment.copy(alloc)?)?;
     }
     Ok(copies)
 }
@@ -65,9 +93,7 @@ fn copied_terminals(
 {
     let mut copies = List::new(alloc);
     for terminal in terminals {
-        let cavity = terminal.cavity;
-        let when = terminal.when.copy(alloc)?;
-        copies.push(TerminalDraft { cavity, when })?;
+        copies.push(terminal.copy(alloc)?)?;
     }
     Ok(copies)
 }
@@ -78,12 +104,7 @@ fn copied_nets(alloc: Global, nets: &[NetDraft]) -> Result<List<NetDraft>, NoMem
 {
     let mut copies = List::new(alloc);
     for net in nets {
-        let terminals = copied_terminals(alloc, net.terminals.as_slice())?;
-        copies.push(NetDraft {
-            name: net.name,
-            class: net.class,
-            terminals,
-        })?;
+        copies.push(net.copy(alloc)?)?;
     }
     Ok(copies)
 }

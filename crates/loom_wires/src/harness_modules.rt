@@ -72,8 +72,8 @@ fn grouped(alloc: Global, topology: &Topology, wires: &[Wire]) -> Result<Vec<Mod
     Ok(modules)
 }
 
-/// The modules of wires: harness by harness, the wires of equal row make one module, in the order of
-/// their first wires. A wire lies in the harness of its ends, which are in range. More wires than
+/// The modules of wires: harness by harness, the wires of equal row make one module, in the order
+/// of their first wires. A wire lies in the harness of its ends, which are in range. More wires than
 /// there are positions are answered as want of memory.
 pub fn modules(alloc: Global, topology: &Topology, wires: &[Wire]) -> Result<List<Module>, NoMemory>
     requires { All (λ w. IsEndInRange topology.now w.from) wires.now }

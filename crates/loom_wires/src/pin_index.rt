@@ -8,7 +8,8 @@ use std::alloc::Global;
 use std::collections::HashMap;
 use std::marker::Model;
 
-/// Lines that give the pins of crossings, found by net, coupler and ordinal. Contracts see the lines.
+/// Lines that give the pins of crossings, found by net, coupler and ordinal. Contracts see the
+/// lines.
 #[derive(Drop)]
 pub(crate) struct PinIndex {
     lines: List<PinLine>,

@@ -55,8 +55,8 @@ fn hung(alloc: Global, set: &LaidSet<'_>, point_count: usize) -> Result<Vec<Vec<
     Ok(stacks)
 }
 
-/// The wires of a set's layout, cut at its stops, with row 0; each crossing of a coupler has the pin
-/// of its first line.
+/// The wires of a set's layout, cut at its stops, with row 0; each crossing of a coupler has the
+/// pin of its first line.
 pub(crate) fn set_wires(
     alloc: Global,
     topology: &Topology,

@@ -127,6 +127,11 @@ fn splice(node: u32) -> End
     }
 }
 
+/// A cavity.
+fn cavity(number: u32) -> End {
+    End::Cavity(CavityNo(number))
+}
+
 /// A side of a pin of coupler 0.
 fn side(pin: u16, side: u32) -> End {
     End::Pin {
@@ -162,9 +167,9 @@ fn cavities_at_one_node(rt: HostRuntime) -> Result<(), Fail> {
     let wires = cut(alloc, &topology, &mut rows, &[set], &[])?;
     let wires = wires.as_slice();
     assert_eq!(rt; wires.len(), 3);
-    assert!(rt; is(&wires[0], End::Cavity(CavityNo(0)), splice(0), &[], 0));
-    assert!(rt; is(&wires[1], End::Cavity(CavityNo(1)), splice(0), &[], 0));
-    assert!(rt; is(&wires[2], End::Cavity(CavityNo(2)), splice(0), &[], 0));
+    assert!(rt; is(&wires[0], cavity(0), splice(0), &[], 0));
+    assert!(rt; is(&wires[1], cavity(1), splice(0), &[], 0));
+    assert!(rt; is(&wires[2], cavity(2), splice(0), &[], 0));
     assert!(rt; are_always(wires));
     Ok(())
 }
@@ -184,17 +189,9 @@ fn a_run_passed_twice(rt: HostRuntime) -> Result<(), Fail> {
     let wires = wires.as_slice();
     let [one, two] = [SegmentNo(0), SegmentNo(1)];
     assert_eq!(rt; wires.len(), 3);
-    assert!(rt; is(&wires[0], End::Cavity(CavityNo(0)), splice(0), &[], 0));
-    assert!(rt; is(&wires[1], End::Cavity(CavityNo(1)), splice(0), &[one], 100));
-    assert!(rt;
-        is(
-            &wires[2],
-            End::Cavity(CavityNo(2)),
-            splice(0),
-            &[two, one],
-            150
-        )
-    );
+    assert!(rt; is(&wires[0], cavity(0), splice(0), &[], 0));
+    assert!(rt; is(&wires[1], cavity(1), splice(0), &[one], 100));
+    assert!(rt; is(&wires[2], cavity(2), splice(0), &[two, one], 150));
     assert!(rt; are_always(wires));
     Ok(())
 }
@@ -213,17 +210,9 @@ fn a_coupler_passed_twice(rt: HostRuntime) -> Result<(), Fail> {
     let wires = cut(alloc, &topology, &mut rows, &[set], &[pin(1, 1), pin(2, 2)])?;
     let wires = wires.as_slice();
     assert_eq!(rt; wires.len(), 5);
-    assert!(rt; is(&wires[0], End::Cavity(CavityNo(0)), splice(0), &[], 0));
-    assert!(rt; is(&wires[1], End::Cavity(CavityNo(1)), side(1, 2), &[], 0));
-    assert!(rt;
-        is(
-            &wires[2],
-            End::Cavity(CavityNo(2)),
-            side(2, 2),
-            &[SegmentNo(1)],
-            50
-        )
-    );
+    assert!(rt; is(&wires[0], cavity(0), splice(0), &[], 0));
+    assert!(rt; is(&wires[1], cavity(1), side(1, 2), &[], 0));
+    assert!(rt; is(&wires[2], cavity(2), side(2, 2), &[SegmentNo(1)], 50));
     assert!(rt; is(&wires[3], splice(0), side(1, 1), &[], 0));
     assert!(rt; is(&wires[4], splice(0), side(2, 1), &[], 0));
     assert!(rt; are_always(wires));
@@ -285,34 +274,10 @@ fn sets_with_a_common_wire(rt: HostRuntime) -> Result<(), Fail> {
     let wires = cut(alloc, &topology, &mut rows, &sets, &[pin(1, 1)])?;
     let wires = wires.as_slice();
     assert_eq!(rt; wires.len(), 5);
-    assert!(rt; is(&wires[0], End::Cavity(CavityNo(0)), side(1, 1), &[], 0));
-    assert!(rt;
-        is(
-            &wires[1],
-            End::Cavity(CavityNo(1)),
-            splice(1),
-            &[SegmentNo(1)],
-            100
-        )
-    );
-    assert!(rt;
-        is(
-            &wires[2],
-            End::Cavity(CavityNo(1)),
-            side(1, 2),
-            &[SegmentNo(1)],
-            100
-        )
-    );
-    assert!(rt;
-        is(
-            &wires[3],
-            End::Cavity(CavityNo(2)),
-            splice(1),
-            &[SegmentNo(2)],
-            60
-        )
-    );
+    assert!(rt; is(&wires[0], cavity(0), side(1, 1), &[], 0));
+    assert!(rt; is(&wires[1], cavity(1), splice(1), &[SegmentNo(1)], 100));
+    assert!(rt; is(&wires[2], cavity(1), side(1, 2), &[SegmentNo(1)], 100));
+    assert!(rt; is(&wires[3], cavity(2), splice(1), &[SegmentNo(2)], 60));
     assert!(rt; is(&wires[4], splice(1), side(1, 2), &[], 0));
     assert!(rt; have_conds(&rows, wires, &[Cond::Always, a, not_a, a, a]));
     Ok(())
@@ -320,7 +285,8 @@ fn sets_with_a_common_wire(rt: HostRuntime) -> Result<(), Fail> {
 
 /// Wires that begin at these ends and have these rows.
 fn wires_from(alloc: Global, ends: &[(End, u32)]) -> Result<List<Wire>, NoMemory>
-    ensures { IfOk result (λ wires. map (λ wire. wire.from) wires ≡ map (λ end. end.0) ends.now) }
+    ensures { IfOk result (λ wires.
+        map (λ wire. wire.from) wires ≡ map (λ end. end.0) ends.now) }
 {
     let mut wires = List::new(alloc);
     for (end, row) in ends {
