@@ -20,7 +20,6 @@ use Rattle.loom_laid.specs.Kept.{KeptTable, AreTrueOf, key_of}
 use Rattle.loom_laid.specs.Growth.{HasLayout, GainsLayout}
 use Rattle.loom_laid.specs.LaidSets.{IsLaid, IsNetTable}
 use Rattle.loom_laid.specs.LaidStops.{IsReached}
-use Rattle.loom_laid.proofs.KeptTrue.{cavities-in_range}
 use Rattle.loom_laid.proofs.LaidLemmas.{live-is_set, laid-of}
 use Rattle.loom_laid.proofs.LayoutsTrue.{layout-of_net, gains-true}
 
@@ -43,9 +42,6 @@ home-below topology terminals mask sound in_range lt = sound.cavities (stem_cavi
 
 module _ (draft : Draft) (set : LiveSet) (line : TableLine) (holds : IsNetTable draft line) (of_net : line.net ≡ set.net)
     (sound : HasSoundTopologies draft) (lt : set.net.0 < length draft.nets) where
-  in_range : All (λ c. c < length draft.cavities) (cavities_of draft set.net.0)
-  in_range = cavities-in_range draft set.net.0 (sound.terminals set.net.0 lt)
-
   least : IsLeastTable (net_topology draft set.net.0) (cavities_of draft set.net.0) line.table
   least = line-least draft set.net line holds of_net
 
@@ -64,7 +60,7 @@ module _ (draft : Draft) (set : LiveSet) (line : TableLine) (holds : IsNetTable 
         → IsLaid draft tables (record { net = set.net; mask = set.mask; cond = set.cond; cost = cost; layout = copied })
     kept-laid tables kept key layout copied there are_true under has same =
         let laid : IsLayoutOf (net_topology draft set.net.0) (cavities_of draft set.net.0) (cell_at line.table) set.mask layout =
-        layout-of_net draft set.net.0 line.table in_range least holds.whole kept key set.mask layout are_true under has in
+        layout-of_net draft set.net.0 line.table least holds.whole kept key set.mask layout are_true under has in
         let one : Result LaidSet ℕ = Ok (record { net = set.net; mask = set.mask; cond = set.cond; cost = cost; layout = copied }) in
         laid-of draft set (net_topology draft set.net.0) (cavities_of draft set.net.0) refl refl one tables line there of_net refl
         (subst (λ (l : Layout). IsLayoutOf (net_topology draft set.net.0) (cavities_of draft set.net.0) (cell_at line.table) set.mask l) (sym same) laid)
@@ -82,12 +78,15 @@ module _ (draft : Draft) (set : LiveSet) (line : TableLine) (holds : IsNetTable 
 
   -- what is kept stays true with the new layout
   pub new-true : (topology : TopologyView) (terminals : List ℕ) (old new : List KeptTable) (key : List ℕ × List ℕ) (mask : ℕ) (layout copied : Layout)
-      → topology ≡ net_topology draft set.net.0 → terminals ≡ cavities_of draft set.net.0 → key ≡ key_of draft set.net.0
+      → IsLiveSet draft set.net.0 mask → length terminals ≤ 12 → topology ≡ net_topology draft set.net.0 → terminals ≡ cavities_of draft set.net.0 → key ≡ key_of draft set.net.0
       → IsLayoutOf topology terminals (cell_at line.table) mask layout → copied ≡ layout → GainsLayout old new key mask copied
       → AreTrueOf draft old → AreTrueOf draft new
-  new-true topology terminals old new key mask layout copied over of under laid same gains are_true =
+  new-true topology terminals old new key mask layout copied live few over of under laid same gains are_true =
+      let few' : length (cavities_of draft set.net.0) ≤ 12 = subst (λ (l : List ℕ). length l ≤ 12) of few in
+      let within : stem_of mask < length (cavities_of draft set.net.0) =
+      stem_in_range (cavities_of draft set.net.0) mask (live-is_set draft set.net.0 mask live) few' in
       let here : IsLayoutOf (net_topology draft set.net.0) (cavities_of draft set.net.0) (cell_at line.table) mask copied =
       subst (λ (l : Layout). IsLayoutOf (net_topology draft set.net.0) (cavities_of draft set.net.0) (cell_at line.table) mask l) (sym same)
       (subst (λ (t : TopologyView). IsLayoutOf t (cavities_of draft set.net.0) (cell_at line.table) mask layout) over
       (subst (λ (l : List ℕ). IsLayoutOf topology l (cell_at line.table) mask layout) of laid)) in
-      gains-true draft set.net.0 line.table in_range least holds.whole old new key mask copied under here gains are_true
+      gains-true draft set.net.0 line.table least holds.whole old new key mask copied under within here gains are_true

@@ -1,19 +1,23 @@
 -- What is kept holds of each net with the same class and nodes.
-use Rattle.std.proofs.Common.{◌≡◌, ℕ, ◌-◌, ◌^◌, ◌<◌, List, [], ◌∷◌, ◌++◌, length, map, refl, sym, ap, subst, ◌∙◌, arith, Contains}
+use Rattle.std.proofs.Common.{◌≡◌, ℕ, ◌-◌, ◌^◌, ◌<◌, List, [], ◌∷◌, ◌++◌, length, map, get_or, refl, sym, ap, subst, ◌∙◌, arith, Contains}
 use Rattle.std.specs.List.{All}
 use Rattle.std.specs.Prelude.{Result, Ok, Err, OnOk, OnErr}
-use Rattle.std.proofs.lemmas.List.{length-map, map-append}
+use Rattle.std.specs.Prelude.{slice_index}
+use Rattle.std.specs.List.{range_with_len}
+use Rattle.std.proofs.lemmas.List.{length-map, map-append, ext_get_or}
+use Rattle.std.proofs.lemmas.List.FromFn.{length-range_with_len, length-map-range_with_len, get_or-map-range_with_len}
 use Rattle.std.proofs.lemmas.List.Elements.{All-push, All-contains, Contains-push}
 use Rattle.loom_topology.specs.Topology.{TopologyView, node_of}
 use Rattle.loom_topology.specs.Table.{TableView, cell_at, IsWhole}
 use Rattle.loom_steiner.specs.LeastTable.{IsLeastTable}
-use Rattle.loom_layout.proofs.Nodes.{nodes_fix_least_costs}
+use Rattle.loom_layout.specs.Laws.{AreAlike}
+use Rattle.loom_layout.proofs.Nodes.{nodes_fix_layouts, nodes_fix_least_costs}
 use Rattle.loom_project.specs.declared.draft.Draft.{Draft}
 use Rattle.loom_project.specs.Project.{topology_of, class_topology, net_topology, net_at, cavities_of}
-use Rattle.loom_laid.specs.Kept.{KeptTable, IsTrueOf, AreTrueOf, keys_of, key_of}
+use Rattle.loom_laid.specs.Kept.{KeptTable, IsTrueOf, AreTrueOf, IsSameGround, KeptStaysTrue, with_cavities_at, all_of, kept_topology, keys_of, key_of}
+use Rattle.loom_types.specs.SetMask.{stem_of}
 use Rattle.loom_base.specs.Causes.{next_count}
 use Rattle.loom_base.specs.declared.positions.CavityNo.{CavityNo}
-use Rattle.loom_project.proofs.PartsLemmas.{count_net_cavities}
 use Rattle.loom_active.specs.LiveSets.{IsLiveSet}
 use Rattle.loom_laid.specs.Growth.{HasTable, IsFilled, Grew, kept_under}
 use Rattle.loom_laid.proofs.Growing.{grew-none, grew-one}
@@ -21,27 +25,69 @@ use Rattle.loom_laid.proofs.Growing.{grew-none, grew-one}
 abbrev Key : Type 0
 Key = List ℕ × List ℕ
 
--- a table of a net is one of all cavities at the same nodes
-table-moves : (draft : Draft) (class cavities others : List ℕ) (table : TableView)
-    → map (node_of (topology_of draft)) cavities ≡ map (node_of (topology_of draft)) others
-    → IsLeastTable (class_topology draft class) cavities table → IsLeastTable (class_topology draft class) others table
-table-moves draft class cavities others table same least =
+-- a table over one topology is one of cavities at the same nodes over each that is alike
+pub table-moves : (one other : TopologyView) (cavities others : List ℕ) (table : TableView) → AreAlike one other
+    → map (node_of one) cavities ≡ map (node_of other) others → IsLeastTable one cavities table → IsLeastTable other others table
+table-moves one other cavities others table alike same least =
     let as_many : length cavities ≡ length others =
-    sym (length-map cavities (node_of (topology_of draft))) ∙ ap length same ∙ length-map others (node_of (topology_of draft)) in
+    sym (length-map cavities (node_of one)) ∙ ap length same ∙ length-map others (node_of other) in
     record {
       masks = least.masks ∙ ap (λ n. 2 ^ (n - 1) - 1) as_many;
-      nodes = least.nodes;
-      least = nodes_fix_least_costs (class_topology draft class) cavities others (cell_at table) same least.least;
+      nodes = least.nodes ∙ alike.as_many;
+      least = nodes_fix_least_costs one other cavities others (cell_at table) alike same least.least;
     }
+
+-- other cavities leave nodes and segments as they are
+pub alike-moved : (topology : TopologyView) (nodes : List ℕ) → AreAlike topology (with_cavities_at topology nodes)
+alike-moved topology nodes = record {
+  as_many = refl;
+  branch = λ v. refl;
+  from = λ s. refl;
+  to = λ s. refl;
+  price = λ s. refl;
+  is_open = λ s. refl;
+}
+
+pub alike-from : (topology : TopologyView) (nodes : List ℕ) → AreAlike (with_cavities_at topology nodes) topology
+alike-from topology nodes = record {
+  as_many = refl;
+  branch = λ v. refl;
+  from = λ s. refl;
+  to = λ s. refl;
+  price = λ s. refl;
+  is_open = λ s. refl;
+}
+
+index-all : (xs : List ℕ) → map (slice_index xs) (range_with_len 0 (length xs)) ≡ xs
+index-all xs =
+    let many : length (map (slice_index xs) (range_with_len 0 (length xs))) ≡ length xs = length-map-range_with_len (slice_index xs) 0 (length xs) in
+    ext_get_or 0 (map (slice_index xs) (range_with_len 0 (length xs))) xs many
+    (λ i lt. get_or-map-range_with_len (slice_index xs) 0 (length xs) i i 0 (subst (λ (n : ℕ). i < n) many lt) (omega arith))
+
+pub length-all : (nodes : List ℕ) → length (all_of nodes) ≡ length nodes
+length-all nodes = length-range_with_len 0 (length nodes)
+
+-- a net's key has the nodes of its cavities
+pub key-nodes : (draft : Draft) (net : ℕ) → map (node_of (net_topology draft net)) (cavities_of draft net) ≡ (key_of draft net).1
+unfolding net_topology
+key-nodes draft net = refl
+
+pub nodes-all : (topology : TopologyView) (nodes : List ℕ) → map (node_of (with_cavities_at topology nodes)) (all_of nodes) ≡ nodes
+nodes-all topology nodes = index-all nodes
 
 net-table-true : (draft : Draft) (net : ℕ) (table : TableView) → IsWhole table
     → IsLeastTable (net_topology draft net) (cavities_of draft net) table → IsTrueOf draft (kept_under (key_of draft net) table)
 unfolding net_topology
-net-table-true draft net table whole least = record {
-  whole = whole;
-  table = λ cavities lie. table-moves draft (net_at draft net).class (cavities_of draft net) cavities table (sym lie.nodes_are) least;
-  layouts = λ cavities lie mask layout at. absurd (let lt = at.1 in omega (arith, lt));
-}
+net-table-true draft net table whole least =
+    let class = (net_at draft net).class in
+    let nodes = (key_of draft net).1 in
+    record {
+      whole = whole;
+      table = table-moves (class_topology draft class) (with_cavities_at (class_topology draft class) nodes) (cavities_of draft net) (all_of nodes) table
+          (alike-moved (class_topology draft class) nodes) (sym (nodes-all (class_topology draft class) nodes)) least;
+      stems = λ mask layout at. absurd (let lt = at.1 in omega (arith, lt));
+      layouts = λ mask layout at. absurd (let lt = at.1 in omega (arith, lt));
+    }
 
 -- what is kept stays true as the table of a net is filled
 filled-true : (draft : Draft) (net : ℕ) (topology : TopologyView) (terminals : List ℕ) (key : Key) (old new : List KeptTable)
@@ -66,22 +112,59 @@ filled-has : (topology : TopologyView) (terminals : List ℕ) (key : Key) (old n
 filled-has topology terminals key old new filled =
     subst (λ (l : List Key). Contains l key) (sym (filled-keys topology terminals key old new filled)) (Contains-push (keys_of old) key)
 
-of-entry : (draft : Draft) (net : ℕ) (entry : KeptTable) → (entry.class, entry.nodes) ≡ key_of draft net → IsTrueOf draft entry
-    → All (λ c. c < length draft.cavities) (cavities_of draft net) → IsLeastTable (net_topology draft net) (cavities_of draft net) entry.table
-unfolding net_topology
-of-entry draft net entry same holds in_range =
-    let class : entry.class ≡ (net_at draft net).class = ap (λ (k : Key). k.0) same in
-    let nodes : entry.nodes ≡ map (node_of (topology_of draft)) (cavities_of draft net) = ap (λ (k : Key). k.1) same in
-    subst (λ (c : List ℕ). IsLeastTable (class_topology draft c) (cavities_of draft net) entry.table) class
-    (holds.table (cavities_of draft net) (record { in_range = in_range; nodes_are = sym nodes }))
+-- the topology with cavities at a key's nodes is alike that of each net of the key, whose cavities lie at them
+module _ (draft : Draft) (net : ℕ) (entry : KeptTable) (same : (entry.class, entry.nodes) ≡ key_of draft net) where
+  pub kept-alike : AreAlike (kept_topology draft entry) (net_topology draft net)
+  unfolding net_topology
+  kept-alike = subst (λ (c : List ℕ). AreAlike (kept_topology draft entry) (class_topology draft c)) (ap (λ (k : Key). k.0) same)
+      (alike-from (class_topology draft entry.class) entry.nodes)
+
+  pub alike-kept : AreAlike (net_topology draft net) (kept_topology draft entry)
+  unfolding net_topology
+  alike-kept = subst (λ (c : List ℕ). AreAlike (class_topology draft c) (kept_topology draft entry)) (ap (λ (k : Key). k.0) same)
+      (alike-moved (class_topology draft entry.class) entry.nodes)
+
+  pub kept-lie : map (node_of (kept_topology draft entry)) (all_of entry.nodes) ≡ map (node_of (net_topology draft net)) (cavities_of draft net)
+  kept-lie = nodes-all (class_topology draft entry.class) entry.nodes ∙ ap (λ (k : Key). k.1) same ∙ sym (key-nodes draft net)
+
+  pub of-entry : IsTrueOf draft entry → IsLeastTable (net_topology draft net) (cavities_of draft net) entry.table
+  of-entry holds =
+      table-moves (kept_topology draft entry) (net_topology draft net) (all_of entry.nodes) (cavities_of draft net) entry.table
+      kept-alike kept-lie holds.table
 
 -- what is kept under a net's key is the net's table
 pub table-of_net : (draft : Draft) (net : ℕ) (kept : List KeptTable) (key : Key) (table : TableView) → AreTrueOf draft kept
-    → All (λ c. c < length draft.cavities) (cavities_of draft net) → key ≡ key_of draft net → HasTable kept key table
+    → key ≡ key_of draft net → HasTable kept key table
     → IsLeastTable (net_topology draft net) (cavities_of draft net) table
-table-of_net draft net kept key table holds in_range under has =
+table-of_net draft net kept key table holds under has =
     subst (λ (t : TableView). IsLeastTable (net_topology draft net) (cavities_of draft net) t) has.is_table
-    (of-entry draft net has.entry (has.of_key ∙ under) (All-contains (IsTrueOf draft) kept has.entry holds has.there) in_range)
+    (of-entry draft net has.entry (has.of_key ∙ under) (All-contains (IsTrueOf draft) kept has.entry holds has.there))
+
+-- what is kept is true of each draft with the same ground
+one-stays : (one other : Draft) (kept : KeptTable) → IsSameGround one other → IsTrueOf one kept → IsTrueOf other kept
+one-stays one other kept same holds =
+    let alike : AreAlike (kept_topology one kept) (kept_topology other kept) =
+    record {
+      as_many = (same kept.class).as_many;
+      branch = (same kept.class).branch;
+      from = (same kept.class).from;
+      to = (same kept.class).to;
+      price = (same kept.class).price;
+      is_open = (same kept.class).is_open;
+    } in
+    let lie : map (node_of (kept_topology one kept)) (all_of kept.nodes) ≡ map (node_of (kept_topology other kept)) (all_of kept.nodes) = refl in
+    record {
+      whole = holds.whole;
+      table = table-moves (kept_topology one kept) (kept_topology other kept) (all_of kept.nodes) (all_of kept.nodes) kept.table alike lie holds.table;
+      stems = holds.stems;
+      layouts = λ mask layout at.
+          let within : stem_of mask < length (all_of kept.nodes) = subst (λ (n : ℕ). stem_of mask < n) (sym (length-all kept.nodes)) (holds.stems mask layout at) in
+          nodes_fix_layouts (kept_topology one kept) (kept_topology other kept) alike (all_of kept.nodes) (all_of kept.nodes) (cell_at kept.table) lie mask layout
+          within (holds.layouts mask layout at);
+    }
+
+pub kept-stays : KeptStaysTrue
+kept-stays one other kept same holds k d lt = one-stays one other (get_or kept k d) same (holds k d lt)
 
 map-numbers : (f : ℕ → ℕ) (cavities : List CavityNo) → map (λ cavity. f cavity.0) cavities ≡ map f (map (λ cavity. cavity.0) cavities)
 map-numbers f [] = refl
@@ -96,11 +179,6 @@ key-is draft net class nodes topology cavities same made over places =
     made ∙ ap (λ (t : TopologyView). map (λ cavity. node_of t cavity.0) cavities) over
     ∙ map-numbers (node_of (topology_of draft)) cavities ∙ ap (map (node_of (topology_of draft))) places in
     λ i. (same i, all i)
-
--- the cavities of a net are among the draft's
-pub cavities-in_range : (draft : Draft) (net : ℕ) → All (λ c. c < length (net_topology draft net).cavities) (cavities_of draft net)
-    → All (λ c. c < length draft.cavities) (cavities_of draft net)
-cavities-in_range draft net in_range = subst (λ (n : ℕ). All (λ c. c < n) (cavities_of draft net)) (count_net_cavities draft net) in_range
 
 module _ {T E : Type 0} (draft : Draft) (net : ℕ) (topology : TopologyView) (terminals : List ℕ) (key : Key) (old new : List KeptTable)
     (over : topology ≡ net_topology draft net) (of : terminals ≡ cavities_of draft net) (under : key ≡ key_of draft net) where

@@ -1,8 +1,7 @@
 -- Layouts that are kept hold of each net with the same class and nodes.
 use Rattle.std.proofs.Common.{◌≡◌, ℕ, ◌+◌, ◌-◌, ◌*◌, ◌/◌, ◌%◌, ◌<◌, ◌≤◌, List, None, length, map, get_or, sym, ap, subst, ◌∙◌, arith, inl, inr}
-use Rattle.std.specs.List.{All}
 use Rattle.std.proofs.lemmas.Bool.{cases_lt, cases_eq}
-use Rattle.std.proofs.lemmas.List.{ext_get_or}
+use Rattle.std.proofs.lemmas.List.{ext_get_or, length-map}
 use Rattle.std.proofs.Math.Nat.{mul-le-mul_left}
 use Rattle.std.proofs.lemmas.List.Elements.{All-contains, Contains-get_or}
 use Rattle.loom_topology.specs.Topology.{TopologyView, node_of}
@@ -14,9 +13,11 @@ use Rattle.loom_steiner.specs.LeastTable.{IsLeastTable}
 use Rattle.loom_layout.specs.Layout.{IsLayoutOf}
 use Rattle.loom_layout.proofs.Nodes.{nodes_fix_layouts}
 use Rattle.loom_project.specs.declared.draft.Draft.{Draft}
-use Rattle.loom_project.specs.Project.{topology_of, class_topology, net_topology, cavities_of}
-use Rattle.loom_laid.specs.Kept.{KeptTable, IsTrueOf, AreTrueOf, LieAt, key_of}
+use Rattle.loom_project.specs.Project.{net_topology, cavities_of}
+use Rattle.loom_types.specs.SetMask.{stem_of}
+use Rattle.loom_laid.specs.Kept.{KeptTable, IsTrueOf, AreTrueOf, all_of, kept_topology, key_of}
 use Rattle.loom_laid.specs.Growth.{HasLayout, IsSameBut, GainsLayout}
+use Rattle.loom_laid.proofs.KeptTrue.{length-all, key-nodes, kept-alike, alike-kept, kept-lie, of-entry}
 
 abbrev Key : Type 0
 Key = List ℕ × List ℕ
@@ -70,20 +71,11 @@ module _ (topology : TopologyView) (terminals : List ℕ) (one two : TableView) 
 
 -- ---- what is kept under a net's key
 
-module _ (draft : Draft) (net : ℕ) (table : TableView) (in_range : All (λ c. c < length draft.cavities) (cavities_of draft net))
+module _ (draft : Draft) (net : ℕ) (table : TableView)
     (least : IsLeastTable (net_topology draft net) (cavities_of draft net) table) (whole : IsWhole table) where
-  lies : (entry : KeptTable) → (entry.class, entry.nodes) ≡ key_of draft net → LieAt draft entry.nodes (cavities_of draft net)
-  lies entry under = record { in_range = in_range; nodes_are = sym (ap (λ (k : Key). k.1) under) }
-
-  over-class : (entry : KeptTable) → (entry.class, entry.nodes) ≡ key_of draft net → class_topology draft entry.class ≡ net_topology draft net
-  unfolding net_topology
-  over-class entry under = ap (λ (k : Key). class_topology draft k.0) under
-
   own-table : (entry : KeptTable) → (entry.class, entry.nodes) ≡ key_of draft net → IsTrueOf draft entry → entry.table ≡ table
   own-table entry under holds =
-      let its : IsLeastTable (net_topology draft net) (cavities_of draft net) entry.table =
-      subst (λ (t : TopologyView). IsLeastTable t (cavities_of draft net) entry.table) (over-class entry under) (holds.table (cavities_of draft net) (lies entry under)) in
-      table-unique (net_topology draft net) (cavities_of draft net) entry.table table its least holds.whole whole
+      table-unique (net_topology draft net) (cavities_of draft net) entry.table table (of-entry draft net entry under holds) least holds.whole whole
 
   -- a layout that is kept is the net's
   pub layout-of_net : (kept : List KeptTable) (key : Key) (mask : ℕ) (layout : Layout) → AreTrueOf draft kept → key ≡ key_of draft net
@@ -92,46 +84,59 @@ module _ (draft : Draft) (net : ℕ) (table : TableView) (in_range : All (λ c. 
       let entry = has.entry in
       let own : (entry.class, entry.nodes) ≡ key_of draft net = has.of_key ∙ under in
       let true' : IsTrueOf draft entry = All-contains (IsTrueOf draft) kept entry holds has.there in
+      let within : stem_of mask < length (all_of entry.nodes) = subst (λ (n : ℕ). stem_of mask < n) (sym (length-all entry.nodes)) (true'.stems mask layout has.has) in
       subst (λ (t : TableView). IsLayoutOf (net_topology draft net) (cavities_of draft net) (cell_at t) mask layout) (own-table entry own true')
-      (subst (λ (t : TopologyView). IsLayoutOf t (cavities_of draft net) (cell_at entry.table) mask layout) (over-class entry own)
-      (true'.layouts (cavities_of draft net) (lies entry own) mask layout has.has))
+      (nodes_fix_layouts (kept_topology draft entry) (net_topology draft net) (kept-alike draft net entry own) (all_of entry.nodes) (cavities_of draft net)
+      (cell_at entry.table) (kept-lie draft net entry own) mask layout within (true'.layouts mask layout has.has))
 
-  -- the net's layout is that of all cavities at the same nodes
+  -- the net's layout is that of all nets at the same nodes
   layout-moves : (entry : KeptTable) (mask : ℕ) (layout : Layout) → (entry.class, entry.nodes) ≡ key_of draft net → IsTrueOf draft entry
+      → stem_of mask < length (cavities_of draft net)
       → IsLayoutOf (net_topology draft net) (cavities_of draft net) (cell_at table) mask layout
-      → (cavities : List ℕ) → LieAt draft entry.nodes cavities → IsLayoutOf (class_topology draft entry.class) cavities (cell_at entry.table) mask layout
-  layout-moves entry mask layout own holds laid cavities lie =
-      let here : IsLayoutOf (class_topology draft entry.class) (cavities_of draft net) (cell_at entry.table) mask layout =
-      subst (λ (t : TopologyView). IsLayoutOf t (cavities_of draft net) (cell_at entry.table) mask layout) (sym (over-class entry own))
-      (subst (λ (t : TableView). IsLayoutOf (net_topology draft net) (cavities_of draft net) (cell_at t) mask layout) (sym (own-table entry own holds)) laid) in
-      let same : map (node_of (topology_of draft)) (cavities_of draft net) ≡ map (node_of (topology_of draft)) cavities =
-      (lies entry own).nodes_are ∙ sym lie.nodes_are in
-      nodes_fix_layouts (class_topology draft entry.class) (cavities_of draft net) cavities (cell_at entry.table) same mask layout here
+      → IsLayoutOf (kept_topology draft entry) (all_of entry.nodes) (cell_at entry.table) mask layout
+  layout-moves entry mask layout own holds within laid =
+      let here : IsLayoutOf (net_topology draft net) (cavities_of draft net) (cell_at entry.table) mask layout =
+      subst (λ (t : TableView). IsLayoutOf (net_topology draft net) (cavities_of draft net) (cell_at t) mask layout) (sym (own-table entry own holds)) laid in
+      nodes_fix_layouts (net_topology draft net) (kept_topology draft entry) (alike-kept draft net entry own) (cavities_of draft net) (all_of entry.nodes)
+      (cell_at entry.table) (sym (kept-lie draft net entry own)) mask layout within here
+
+  as_many : (entry : KeptTable) → (entry.class, entry.nodes) ≡ key_of draft net → length (cavities_of draft net) ≡ length entry.nodes
+  as_many entry own =
+      sym (length-map (cavities_of draft net) (node_of (net_topology draft net)))
+      ∙ ap length (key-nodes draft net ∙ sym (ap (λ (k : Key). k.1) own))
 
   grown-true : (before after : KeptTable) (key : Key) (mask : ℕ) (layout : Layout) → key ≡ key_of draft net
+      → stem_of mask < length (cavities_of draft net)
       → IsLayoutOf (net_topology draft net) (cavities_of draft net) (cell_at table) mask layout → IsSameBut before after key mask layout
       → IsTrueOf draft before → IsTrueOf draft after
-  grown-true before after key mask layout under laid same holds =
+  grown-true before after key mask layout under within laid same holds =
       let grown : KeptTable = record { class = before.class; nodes = before.nodes; table = before.table; layouts = after.layouts } in
       let is : after ≡ grown = λ i. record { class = same.class i; nodes = same.nodes i; table = same.table i; layouts = after.layouts } in
       let true' : IsTrueOf draft grown = record {
         whole = holds.whole;
         table = holds.table;
-        layouts = λ cavities lie m l has. elim (same.layouts m l has) [
-          | inl old ↦ holds.layouts cavities lie m l old
+        stems = λ m l has. elim (same.layouts m l has) [
+          | inl old ↦ holds.stems m l old
           | inr new ↦
-              let moved = layout-moves before mask layout (new.0 ∙ under) holds laid cavities lie in
-              subst (λ (k : ℕ). IsLayoutOf (class_topology draft before.class) cavities (cell_at before.table) k l) (sym new.1)
-              (subst (λ (k : Layout). IsLayoutOf (class_topology draft before.class) cavities (cell_at before.table) mask k) (sym new.2) moved)
+              subst (λ (k : ℕ). stem_of k < length before.nodes) (sym new.1)
+              (subst (λ (n : ℕ). stem_of mask < n) (as_many before (new.0 ∙ under)) within)
+        ];
+        layouts = λ m l has. elim (same.layouts m l has) [
+          | inl old ↦ holds.layouts m l old
+          | inr new ↦
+              let moved = layout-moves before mask layout (new.0 ∙ under) holds within laid in
+              subst (λ (k : ℕ). IsLayoutOf (kept_topology draft before) (all_of before.nodes) (cell_at before.table) k l) (sym new.1)
+              (subst (λ (k : Layout). IsLayoutOf (kept_topology draft before) (all_of before.nodes) (cell_at before.table) mask k) (sym new.2) moved)
         ];
       } in
       subst (IsTrueOf draft) (sym is) true'
 
   -- what is kept stays true with a layout of the net
   pub gains-true : (old new : List KeptTable) (key : Key) (mask : ℕ) (layout : Layout) → key ≡ key_of draft net
+      → stem_of mask < length (cavities_of draft net)
       → IsLayoutOf (net_topology draft net) (cavities_of draft net) (cell_at table) mask layout → GainsLayout old new key mask layout
       → AreTrueOf draft old → AreTrueOf draft new
-  gains-true old new key mask layout under laid gains holds k d lt =
+  gains-true old new key mask layout under within laid gains holds k d lt =
       let after = get_or new k d in
       let from = gains.each after (Contains-get_or new k d lt) in
-      grown-true from.0 after key mask layout under laid from.2 (All-contains (IsTrueOf draft) old from.0 holds from.1)
+      grown-true from.0 after key mask layout under within laid from.2 (All-contains (IsTrueOf draft) old from.0 holds from.1)

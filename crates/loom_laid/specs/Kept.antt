@@ -1,10 +1,13 @@
 use Rattle.std.specs.Prelude.{ℕ, List, ◌≡◌, ◌≢◌, ◌<◌, ◌⊎◌, ◌↔◌, ◌-◌, ◌^◌, ◌+◌, map, min, length, All, AllPairs, Contains}
-use Rattle.loom_topology.specs.Topology.{node_of}
+use Rattle.std.specs.List.{range_with_len}
+use Rattle.loom_topology.specs.Topology.{TopologyView, node_of}
 use Rattle.loom_topology.specs.Table.{TableView, cell_at, IsWhole}
 use Rattle.loom_project.specs.declared.draft.Draft.{Draft}
 use Rattle.loom_project.specs.Project.{topology_of, class_topology, net_at, cavities_of}
 use Rattle.loom_types.specs.declared.layout.Layout.{Layout}
+use Rattle.loom_types.specs.SetMask.{stem_of}
 use Rattle.loom_steiner.specs.LeastTable.{IsLeastTable}
+use Rattle.loom_layout.specs.Laws.{AreAlike}
 use Rattle.loom_layout.specs.Layout.{IsLayoutOf}
 use Rattle.loom_active.specs.LiveSets.{IsLiveSet}
 
@@ -19,23 +22,38 @@ pub record KeptTable : Type 0 where
   pub table : TableView
   pub layouts : List (ℕ × Layout)
 
--- terminals that lie at these nodes, in order, are cavities of the draft
-pub record LieAt (draft : Draft) (nodes cavities : List ℕ) : Type 0 where
-  pub in_range : All (λ c. c < length draft.cavities) cavities
-  pub nodes_are : map (node_of (topology_of draft)) cavities ≡ nodes
+-- the topology with one cavity at each of these nodes, in order, in the place of its own
+abbrev pub with_cavities_at : TopologyView → List ℕ → TopologyView
+with_cavities_at topology nodes = record topology { cavities = nodes }
 
--- of terminals at its nodes it has the table, and layouts, over the class's present topology
+-- the cavities of such a topology, in order
+abbrev pub all_of : List ℕ → List ℕ
+all_of nodes = range_with_len 0 (length nodes)
+
+-- the class's present topology, with cavities at the nodes under which something is kept
+abbrev pub kept_topology : Draft → KeptTable → TopologyView
+kept_topology draft kept = with_cavities_at (class_topology draft kept.class) kept.nodes
+
+-- of a net whose terminals lie at its nodes it has the table, and layouts of sets, over the class's present topology,
+-- whether the draft has such terminals or not
 pub record IsTrueOf (draft : Draft) (kept : KeptTable) : Type 0 where
   pub whole : IsWhole kept.table
-  pub table : (cavities : List ℕ) → LieAt draft kept.nodes cavities
-      → IsLeastTable (class_topology draft kept.class) cavities kept.table
-  pub layouts : (cavities : List ℕ) → LieAt draft kept.nodes cavities
-      → (mask : ℕ) (layout : Layout) → Contains kept.layouts (mask, layout)
-      → IsLayoutOf (class_topology draft kept.class) cavities (cell_at kept.table) mask layout
+  pub table : IsLeastTable (kept_topology draft kept) (all_of kept.nodes) kept.table
+  pub stems : (mask : ℕ) (layout : Layout) → Contains kept.layouts (mask, layout) → stem_of mask < length kept.nodes
+  pub layouts : (mask : ℕ) (layout : Layout) → Contains kept.layouts (mask, layout)
+      → IsLayoutOf (kept_topology draft kept) (all_of kept.nodes) (cell_at kept.table) mask layout
 
 -- so is all that is kept
 abbrev pub AreTrueOf : Draft → List KeptTable → Type 0
 AreTrueOf draft kept = All (IsTrueOf draft) kept
+
+-- what least costs and layouts rest on is the same in two drafts, whatever class a net has
+abbrev pub IsSameGround : Draft → Draft → Type 0
+IsSameGround one other = (class : List ℕ) → AreAlike (class_topology one class) (class_topology other class)
+
+-- what is kept stays true as long as the ground is the same
+abbrev pub KeptStaysTrue : Type 0
+KeptStaysTrue = (one other : Draft) (kept : List KeptTable) → IsSameGround one other → AreTrueOf one kept → AreTrueOf other kept
 
 -- under what a table is kept
 abbrev pub keys_of : List KeptTable → List (List ℕ × List ℕ)

@@ -5,6 +5,7 @@ mod class_topology;
 mod kept;
 mod key;
 mod laid_set;
+mod laws;
 mod laying;
 mod stop;
 mod tables;
@@ -13,5 +14,6 @@ mod tests;
 
 pub use kept::Kept;
 pub use laid_set::{Laid, LaidSet};
+pub use laws::kept_stays_true;
 pub use laying::lay_sets;
 pub use stop::LaidStop;

@@ -1,6 +1,9 @@
-use Rattle.std.proofs.Common.{ℕ, List, map, sym, subst}
+use Rattle.std.proofs.Common.{ℕ, List, map, sym, ap, subst}
 use Rattle.std.specs.Prelude.{Result, Ok}
 use Rattle.loom_types.specs.SetMask.{IsSet}
+use Rattle.loom_layout.proofs.Sets.{few_numbers}
+use Rattle.loom_active.specs.declared.live.LiveSet.{LiveSet}
+use Rattle.loom_active.specs.LiveSets.{IsLiveSet}
 use Rattle.loom_laid.specs.Keys.{pair_of}
 use Rattle.loom_laid.proofs.LaidLemmas.{live-is_set, in_range-over, reached-of}
 use Rattle.loom_laid.proofs.KeptSets.{new-true}
@@ -20,7 +23,9 @@ pub returns-in_err-keep_layout-clause-kept : goal.returns-in_err-keep_layout-cla
 returns-in_err-keep_layout-clause-kept c =
     new-true c.args.project.now c.args.set c.args.line.now c.requires.table c.requires.net c.has_sound_topologies.ensures c.requires.in_range
     c.in_ok-present.present.topology (map (λ cavity. cavity.0) c.cavities-cavities.result.now) c.args.kept.now c.keep_layout.new.self
-    (pair_of c.in_ok-key.key) c.in_ok-laid.laid.mask c.in_ok-laid.laid.layout c.in_ok-copy.field-0 c.in_ok-present.ensures.topology
+    (pair_of c.in_ok-key.key) c.in_ok-laid.laid.mask c.in_ok-laid.laid.layout c.in_ok-copy.field-0
+    (subst (λ (m : ℕ). IsLiveSet c.args.project.now c.args.set.net.0 m) (sym (ap (λ (s : LiveSet). s.mask) c.in_ok-laid.ensures.same)) c.requires.live)
+    (few_numbers c.cavities-cavities.result.now c.cavities-cavities.ensures.at_most) c.in_ok-present.ensures.topology
     c.cavities-cavities.ensures.places c.in_ok-key.ensures c.in_ok-laid.ensures.layout c.in_ok-copy.ensures c.keep_layout.ensures c.requires.kept
 
 pub returns-clause-reached : goal.returns-clause-reached
@@ -33,5 +38,7 @@ pub returns-clause-kept : goal.returns-clause-kept
 returns-clause-kept c =
     new-true c.args.project.now c.args.set c.args.line.now c.requires.table c.requires.net c.has_sound_topologies.ensures c.requires.in_range
     c.in_ok-present.present.topology (map (λ cavity. cavity.0) c.cavities-cavities.result.now) c.args.kept.now c.keep_layout.new.self
-    (pair_of c.in_ok-key.key) c.in_ok-laid.laid.mask c.in_ok-laid.laid.layout c.in_ok-copy.field-0 c.in_ok-present.ensures.topology
+    (pair_of c.in_ok-key.key) c.in_ok-laid.laid.mask c.in_ok-laid.laid.layout c.in_ok-copy.field-0
+    (subst (λ (m : ℕ). IsLiveSet c.args.project.now c.args.set.net.0 m) (sym (ap (λ (s : LiveSet). s.mask) c.in_ok-laid.ensures.same)) c.requires.live)
+    (few_numbers c.cavities-cavities.result.now c.cavities-cavities.ensures.at_most) c.in_ok-present.ensures.topology
     c.cavities-cavities.ensures.places c.in_ok-key.ensures c.in_ok-laid.ensures.layout c.in_ok-copy.ensures c.keep_layout.ensures c.requires.kept
