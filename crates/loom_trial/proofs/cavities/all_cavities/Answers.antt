@@ -1,0 +1,9 @@
+use Rattle.std.proofs.Common.{◌++◌, [], ap, ◌∙◌}
+use Rattle.loom_trial.specs.Trial.{door_cavities}
+use Rattle.loom_trial.proofs.DoorLemmas.{flat_next}
+use Rattle.loom_trial.proofs.cavities.all_cavities.Goals as goal
+
+pub loop-i-preserved : goal.loop-i-preserved
+loop-i-preserved c =
+    c.in_ok-push_door.ensures ∙ ap (λ xs. xs ++ door_cavities c.loop-i.i) c.loop-i.invariant
+    ∙ flat_next door_cavities [] c.loop-i.i c.loop-i.auto.i
