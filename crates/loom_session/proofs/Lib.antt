@@ -1,0 +1,2 @@
+pub mod SameGround
+pub mod Stays
