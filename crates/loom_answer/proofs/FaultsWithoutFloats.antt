@@ -7,7 +7,7 @@ use Rattle.loom_project.specs.declared.fault.ProjectFault.{ProjectFault}
 use Rattle.loom_project.specs.declared.fault.ProjectFault.TheVariants as faults
 use Rattle.loom_answer.specs.Faults.{limit_shown, fault_shown}
 
-fault_plain : (fault : ProjectFault) → has_float (fault_shown fault) ≡ false
+pub fault_plain : (fault : ProjectFault) → has_float (fault_shown fault) ≡ false
 fault_plain (faults.UnknownName of name) = refl
 fault_plain (faults.RepeatedName of name) = refl
 fault_plain (faults.TerminalRepeated net cavity) = refl

@@ -1,4 +1,12 @@
+pub mod Again
+pub mod CellSteps
 pub mod FaultsWithoutFloats
+pub mod OutcomesWithoutFloats
+pub mod PlanAgain
+pub mod Readings
+pub mod RowSteps
 pub mod StopNames
 pub mod StopsWithoutFloats
+pub mod TableAgain
+pub mod TableEnds
 pub mod WithoutFloats

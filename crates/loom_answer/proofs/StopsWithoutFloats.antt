@@ -11,7 +11,7 @@ use Rattle.loom_answer.specs.Stops.{stop_shown}
 names_plain : (names : List (List ℕ)) → items_have_float (items_of (map string names)) ≡ false
 names_plain names = items_have_float-map string (λ name. refl) names
 
-stop_plain : (stop : NamedStop) → has_float (stop_shown stop) ≡ false
+pub stop_plain : (stop : NamedStop) → has_float (stop_shown stop) ≡ false
 stop_plain named.NoChoice = refl
 stop_plain (named.Clash cavity first second choice) = ap (λ b. b || false) (names_plain choice)
 stop_plain (named.Unreachable net cavity reached) = ap (λ b. b || false) (names_plain reached)

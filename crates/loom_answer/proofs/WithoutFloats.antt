@@ -1,5 +1,5 @@
 -- Nothing that is printed has a float.
-use Rattle.std.proofs.Common.{◌≡◌, ℕ, ◌+◌, ◌||◌, List, [], ◌∷◌, false, map, codes, Option, Some, None, refl, ap, ◌∙◌, subst}
+use Rattle.std.proofs.Common.{◌≡◌, ℕ, ◌+◌, ◌||◌, List, [], ◌∷◌, Bool, true, false, ◌==◌, map, codes, Option, Some, None, refl, ap, ◌∙◌, subst}
 use Rattle.std.specs.List.{range_with_len}
 use Rattle.serde_json.specs.Data.{Data, string, put, no_members, Members}
 use Rattle.serde_json.specs.View.{items_of}
@@ -31,9 +31,12 @@ use Rattle.loom_project.specs.declared.draft.TerminalDraft.{TerminalDraft}
 use Rattle.loom_rules.specs.declared.finding.Finding.{Finding}
 use Rattle.loom_rules.specs.declared.report.Report.{Report}
 use Rattle.loom_answer.specs.Answer.{answer_of}
+use Rattle.loom_answer.specs.declared.outcome.Outcome.{Outcome}
+use Rattle.loom_answer.specs.Outcomes.{outcome_shown}
+use Rattle.loom_answer.proofs.OutcomesWithoutFloats.{outcome_plain}
 use Rattle.loom_answer.specs.Reports.{finding_shown, report_shown}
 use Rattle.loom_answer.specs.Plans.{row_shown, step_shown, set_shown, cell_shown, mask_shown, cells_shown, table_shown, pin_shown, module_shown, plan_shown}
-use Rattle.loom_answer.specs.Projects.{formula_step, formula_shown, node_shown, kind_shown, segment_draft_shown, cavity_shown, terminal_shown, net_shown, project_shown}
+use Rattle.loom_answer.specs.Projects.{formula_step, formula_shown, node_shown, in_second, with_bars, with_reserved, with_class, kind_shown, segment_draft_shown, cavity_shown, terminal_shown, net_shown, project_shown}
 use Rattle.loom_json.specs.Fields.{array_of}
 use Rattle.loom_answer.specs.Values.{whole, numbers, tagged}
 use Rattle.loom_answer.specs.Wires.{segment_shown, end_shown, wire_shown}
@@ -149,23 +152,30 @@ node_plain node =
     (add_whole (codes "branch") node.branch
     none))).plain
 
-kind_plain : (segment : SegmentDraft) (kind : Kind) → has_float (kind_shown segment kind) ≡ false
-kind_plain segment (Run length) =
-    (add_string (codes "to") segment.to
+abbrev add_bars : SegmentDraft → Plain → Plain
+add_bars segment = add_list (codes "bars") string (λ name. refl) segment.bars
+
+kind_plain : (second : Bool) (segment : SegmentDraft) (kind : Kind) → has_float (kind_shown second segment kind) ≡ false
+kind_plain second segment (Run length) =
+    let rest = add_string (codes "to") segment.to
     (add_string (codes "name") segment.name
     (add_whole (codes "length") length
     (add_string (codes "from") segment.from
-    none)))).plain
-kind_plain segment (Coupler price pins) =
-    (add_string (codes "to") segment.to
+    none))) in
+    elim second as (λ b. members_have_float (in_second b (with_bars segment) rest.members) ≡ false)
+    [ true ↦ (add_bars segment rest).plain | false ↦ rest.plain ]
+kind_plain second segment (Coupler price pins) =
+    let rest = add_string (codes "to") segment.to
     (add_whole (codes "price") price
     (add_whole (codes "pins") pins
     (add_string (codes "name") segment.name
     (add_string (codes "from") segment.from
-    none))))).plain
+    none)))) in
+    elim second as (λ b. members_have_float (in_second b (with_reserved segment) (in_second b (with_bars segment) rest.members)) ≡ false)
+    [ true ↦ (add_list (codes "reserved") whole (λ n. refl) segment.reserved (add_bars segment rest)).plain | false ↦ rest.plain ]
 
-segment_draft_plain : (segment : SegmentDraft) → has_float (segment_draft_shown segment) ≡ false
-segment_draft_plain segment = kind_plain segment segment.kind
+segment_draft_plain : (second : Bool) (segment : SegmentDraft) → has_float (segment_draft_shown second segment) ≡ false
+segment_draft_plain second segment = kind_plain second segment segment.kind
 
 cavity_plain : (cavity : CavityDraft) → has_float (cavity_shown cavity) ≡ false
 cavity_plain cavity =
@@ -212,19 +222,21 @@ terminal_plain terminal =
     (add_string (codes "cavity") terminal.cavity
     none)).plain
 
-net_plain : (net : NetDraft) → has_float (net_shown net) ≡ false
-net_plain net =
-    (add_list (codes "terminals") terminal_shown terminal_plain net.terminals
+net_plain : (second : Bool) (net : NetDraft) → has_float (net_shown second net) ≡ false
+net_plain second net =
+    let rest = add_list (codes "terminals") terminal_shown terminal_plain net.terminals
     (add_string (codes "name") net.name
-    none)).plain
+    none) in
+    elim second as (λ b. members_have_float (in_second b (with_class net) rest.members) ≡ false)
+    [ true ↦ (add_string (codes "class") net.class rest).plain | false ↦ rest.plain ]
 
-project_plain : (draft : Draft) → has_float (project_shown draft) ≡ false
-project_plain draft =
-    (add_list (codes "segments") segment_draft_shown segment_draft_plain draft.segments
+project_plain : (second : Bool) (draft : Draft) → has_float (project_shown second draft) ≡ false
+project_plain second draft =
+    (add_list (codes "segments") (segment_draft_shown second) (segment_draft_plain second) draft.segments
     (add_list (codes "rules") formula_shown formula_plain draft.rules
     (add_list (codes "options") string (λ name. refl) draft.options
     (add_list (codes "nodes") node_shown node_plain draft.nodes
-    (add_list (codes "nets") net_shown net_plain draft.nets
+    (add_list (codes "nets") (net_shown second) (net_plain second) draft.nets
     (add_list (codes "cavities") cavity_shown cavity_plain draft.cavities
     none)))))).plain
 
@@ -238,16 +250,20 @@ report_plain report =
     (add_list (codes "findings") finding_shown finding_plain report.findings
     none))).plain
 
-answer_plain : (plan : Plan) (draft : Draft) (reports : List Report) → has_float (answer_of plan draft reports) ≡ false
-answer_plain plan draft reports =
-    (add_whole (codes "version") 1
+answer_plain : (version : ℕ) (outcomes : List Outcome) (plan : Plan) (draft : Draft) (reports : List Report) → has_float (answer_of version outcomes plan draft reports) ≡ false
+answer_plain version outcomes plan draft reports =
+    (add_whole (codes "version") version
     (add_list (codes "reports") report_shown report_plain reports
-    (add (codes "project") (project_shown draft) (project_plain draft)
+    (add (codes "project") (project_shown (version == 2) draft) (project_plain (version == 2) draft)
     (add (codes "plan") (plan_shown plan) (plan_plain plan)
-    (add (codes "outcomes") (array_of []) refl
+    (add_list (codes "outcomes") outcome_shown outcome_plain outcomes
     none))))).plain
 
 -- a value that is an answer has no float
-pub plain_answer : (d : Data) (plan : Plan) (draft : Draft) (reports : List Report) → d ≡ answer_of plan draft reports
+pub plain_answer : (d : Data) (version : ℕ) (outcomes : List Outcome) (plan : Plan) (draft : Draft) (reports : List Report) → d ≡ answer_of version outcomes plan draft reports
     → has_float d ≡ false
-plain_answer d plan draft reports is = ap has_float is ∙ answer_plain plan draft reports
+plain_answer d version outcomes plan draft reports is = ap has_float is ∙ answer_plain version outcomes plan draft reports
+
+-- a value that is a wire has no float
+pub plain_wire : (d : Data) (w : Wire) → d ≡ wire_shown w → has_float d ≡ false
+plain_wire d w is = ap has_float is ∙ wire_plain w

@@ -1,8 +1,16 @@
 pub mod Answer
 pub mod Faults
+pub mod NumberForms
+pub mod Outcomes
+pub mod PlanForms
 pub mod Plans
 pub mod Projects
+pub mod Readable
+pub mod ReadingSteps
 pub mod Reports
+pub mod RowForms
 pub mod Stops
+pub mod TableForms
 pub mod Values
+pub mod WireForms
 pub mod Wires

@@ -1,8 +1,7 @@
 //! The objects that say why a project isn't sound, or which limit is passed.
-ghost use Rattle.std.specs.Prelude.{◌≡◌, ◌≢◌, false, IfOk};
+ghost use Rattle.std.specs.Prelude.{◌≡◌, false, IfOk};
 ghost use Rattle.serde_json.specs.View.{view, members_view};
 ghost use Rattle.serde_json.specs.Written.{has_float};
-ghost use Rattle.loom_project.specs.declared.fault.ProjectFault.TheVariants.{NoMemory as OutOfMemory};
 ghost use Rattle.loom_answer.specs.Faults.{of_name, limit_name, of_kind, name_fault_shown, segment_fault_shown, terminal_repeated_shown, too_few_terminals_shown, reserved_pin_shown, limit_shown, fault_shown};
 
 use crate::values::whole;
@@ -59,7 +58,7 @@ pub(crate) fn of_kind(alloc: Global, kind: &str) -> Result<Map<String, Value>, N
 }
 
 /// The object of a fault that tells a name, and what the name should or may not stand for.
-fn name_fault(alloc: Global, kind: &str, of: Of, name: &Name) -> Result<Value, NoMemory>
+pub(crate) fn name_fault(alloc: Global, kind: &str, of: Of, name: &Name) -> Result<Value, NoMemory>
     ensures { IfOk result (λ value. view value ≡ name_fault_shown kind.now of name.now) }
 {
     let name = shown::name(alloc, name)?;
@@ -71,7 +70,7 @@ fn name_fault(alloc: Global, kind: &str, of: Of, name: &Name) -> Result<Value, N
 }
 
 /// The object of a fault that tells a segment.
-fn segment_fault(alloc: Global, kind: &str, segment: &Name) -> Result<Value, NoMemory>
+pub(crate) fn segment_fault(alloc: Global, kind: &str, segment: &Name) -> Result<Value, NoMemory>
     ensures { IfOk result (λ value. view value ≡ segment_fault_shown kind.now segment.now) }
 {
     let segment = shown::name(alloc, segment)?;
@@ -126,8 +125,7 @@ pub(crate) fn limit_value(alloc: Global, which: Which, count: u64) -> Result<Val
 }
 
 /// The object of a project's fault.
-fn fault_value(alloc: Global, fault: &ProjectFault) -> Result<Value, NoMemory>
-    requires { fault.now ≢ OutOfMemory }
+pub(crate) fn fault_value(alloc: Global, fault: &ProjectFault) -> Result<Value, NoMemory>
     ensures { IfOk result (λ value. view value ≡ fault_shown fault.now) }
 {
     match fault {
@@ -140,7 +138,7 @@ fn fault_value(alloc: Global, fault: &ProjectFault) -> Result<Value, NoMemory>
         ProjectFault::NoBorder { segment } => segment_fault(alloc, "NoBorder", segment),
         ProjectFault::ReservedPin { segment, pin } => reserved_pin(alloc, segment, *pin),
         ProjectFault::Limit { which, count } => limit_value(alloc, *which, *count),
-        ProjectFault::NoMemory => unreachable!(),
+        ProjectFault::NoMemory => Ok(Value::Null),
     }
 }
 
@@ -156,11 +154,10 @@ pub fn limit(alloc: Global, which: Which, count: u64) -> Result<Value, NoMemory>
 }
 
 /// The object that tells why a project isn't sound: the fault's `kind` and what the fault says,
-/// each thing by its name. A fault that is want of memory has no object. No number is a float. The
-/// one error is want of memory.
+/// each thing by its name. A fault that is want of memory has no object, and is null. No number is
+/// a float. The one error is want of memory.
 #[tactic(auto, using(crate::proofs::FaultsWithoutFloats::plain_fault))]
 pub fn project_fault(alloc: Global, fault: &ProjectFault) -> Result<Value, NoMemory>
-    requires { fault.now ≢ OutOfMemory }
     ensures value { IfOk result (λ value. view value ≡ fault_shown fault.now) }
     ensures plain { IfOk result (λ value. has_float (view value) ≡ false) }
 {

@@ -95,7 +95,7 @@ fn mask_value(alloc: Global, table: &Table, mask: u32) -> Result<Value, NoMemory
     requires in_range { mask ≤ table.now.masks }
     ensures { IfOk result (λ value. view value ≡ mask_shown table.now mask) }
 {
-    let mut cells = Vec::new(alloc);
+    let mut cells = Vec::with_capacity(alloc, table.nodes() as usize)?;
     for node in 0..table.nodes() {
         cells.push(cell_value(table.cell(mask, NodeNo(node))))?;
     }
@@ -106,7 +106,7 @@ fn mask_value(alloc: Global, table: &Table, mask: u32) -> Result<Value, NoMemory
 fn cells_value(alloc: Global, table: &Table) -> Result<Value, NoMemory>
     ensures { IfOk result (λ value. view value ≡ cells_shown table.now) }
 {
-    let mut rows = Vec::new(alloc);
+    let mut rows = Vec::with_capacity(alloc, table.masks() as usize)?;
     for place in 0..table.masks() {
         rows.push(mask_value(alloc, table, place + 1)?)?;
     }

@@ -1,12 +1,12 @@
 //! How projects are printed.
 ghost use Rattle.std.specs.Prelude.{◌≡◌, ◌++◌, ◌∷◌, [], map, take, IfOk, codes};
 ghost use Rattle.serde_json.specs.Data.{string};
-ghost use Rattle.serde_json.specs.View.{view};
+ghost use Rattle.serde_json.specs.View.{view, members_view};
 ghost use Rattle.loom_formula.specs.Formula.{members_of};
 ghost use Rattle.loom_json.specs.Fields.{array_of};
-ghost use Rattle.loom_answer.specs.Projects.{formula_shown, node_shown, run_shown, coupler_shown, segment_draft_shown, cavity_shown, terminal_shown, net_shown, project_shown};
+ghost use Rattle.loom_answer.specs.Projects.{formula_shown, node_shown, in_second, with_bars as bars_with, with_reserved as reserved_with, with_class as class_with, run_shown, coupler_shown, segment_draft_shown, cavity_shown, terminal_shown, net_shown, project_shown};
 
-use crate::values::{NameShown, whole};
+use crate::values::{NameShown, ShortShown, whole};
 use loom_base::{NoMemory, Pins, Price};
 use loom_formula::{Formula, Members};
 use loom_json::shown::{self, Shown, array, with};
@@ -86,9 +86,66 @@ impl Shown for NodeShown {
     }
 }
 
+/// The members of a segment with the classes that it bars, where the forms are the second
+/// version's.
+fn with_bars<const SECOND: bool>(
+    alloc: Global,
+    members: Map<String, Value>,
+    segment: &SegmentDraft,
+) -> Result<Map<String, Value>, NoMemory>
+    ensures { IfOk result (λ made. members_view made.entries
+        ≡ in_second SECOND (bars_with segment.now) (members_view members.entries)) }
+{
+    if SECOND {
+        let bars = array::<NameShown>(alloc, segment.bars.as_slice())?;
+        with(alloc, members, "bars", bars)
+    } else {
+        Ok(members)
+    }
+}
+
+/// The members of a coupler with the pins that it reserves, where the forms are the second
+/// version's.
+fn with_reserved<const SECOND: bool>(
+    alloc: Global,
+    members: Map<String, Value>,
+    segment: &SegmentDraft,
+) -> Result<Map<String, Value>, NoMemory>
+    ensures { IfOk result (λ made. members_view made.entries
+        ≡ in_second SECOND (reserved_with segment.now) (members_view members.entries)) }
+{
+    if SECOND {
+        let reserved = array::<ShortShown>(alloc, segment.reserved.as_slice())?;
+        with(alloc, members, "reserved", reserved)
+    } else {
+        Ok(members)
+    }
+}
+
+/// The members of a net with its class, where the forms are the second version's.
+fn with_class<const SECOND: bool>(
+    alloc: Global,
+    members: Map<String, Value>,
+    net: &NetDraft,
+) -> Result<Map<String, Value>, NoMemory>
+    ensures { IfOk result (λ made. members_view made.entries
+        ≡ in_second SECOND (class_with net.now) (members_view members.entries)) }
+{
+    if SECOND {
+        let class = shown::name(alloc, &net.class)?;
+        with(alloc, members, "class", class)
+    } else {
+        Ok(members)
+    }
+}
+
 /// The value of a run.
-fn run_value(alloc: Global, segment: &SegmentDraft, length: Price) -> Result<Value, NoMemory>
-    ensures { IfOk result (λ value. view value ≡ run_shown segment.now length) }
+fn run_value<const SECOND: bool>(
+    alloc: Global,
+    segment: &SegmentDraft,
+    length: Price,
+) -> Result<Value, NoMemory>
+    ensures { IfOk result (λ value. view value ≡ run_shown SECOND segment.now length) }
 {
     let from = shown::name(alloc, &segment.from)?;
     let name = shown::name(alloc, &segment.name)?;
@@ -97,17 +154,17 @@ fn run_value(alloc: Global, segment: &SegmentDraft, length: Price) -> Result<Val
     let members = with(alloc, members, "length", whole(length.get()))?;
     let members = with(alloc, members, "name", name)?;
     let members = with(alloc, members, "to", to)?;
-    Ok(Value::Object(members))
+    Ok(Value::Object(with_bars::<SECOND>(alloc, members, segment)?))
 }
 
 /// The value of a coupler.
-fn coupler_value(
+fn coupler_value<const SECOND: bool>(
     alloc: Global,
     segment: &SegmentDraft,
     price: Price,
     pins: Pins,
 ) -> Result<Value, NoMemory>
-    ensures { IfOk result (λ value. view value ≡ coupler_shown segment.now price pins) }
+    ensures { IfOk result (λ value. view value ≡ coupler_shown SECOND segment.now price pins) }
 {
     let from = shown::name(alloc, &segment.from)?;
     let name = shown::name(alloc, &segment.name)?;
@@ -117,21 +174,24 @@ fn coupler_value(
     let members = with(alloc, members, "pins", whole(pins.get()))?;
     let members = with(alloc, members, "price", whole(price.get()))?;
     let members = with(alloc, members, "to", to)?;
-    Ok(Value::Object(members))
+    let members = with_bars::<SECOND>(alloc, members, segment)?;
+    Ok(Value::Object(with_reserved::<SECOND>(alloc, members, segment)?))
 }
 
-/// Shows a run or a coupler.
-struct SegmentDraftShown;
+/// Shows a run or a coupler, in the forms of the second version or in those of the first.
+pub(crate) struct SegmentDraftShown<const SECOND: bool>;
 
-impl Shown for SegmentDraftShown {
+impl<const SECOND: bool> Shown for SegmentDraftShown<SECOND> {
     type Of = SegmentDraft;
 
-    ghost shows = { segment_draft_shown };
+    ghost shows = { segment_draft_shown SECOND };
 
     fn value(alloc: Global, segment: &SegmentDraft) -> Result<Value, NoMemory> {
         match segment.kind {
-            Kind::Run { length } => run_value(alloc, segment, length),
-            Kind::Coupler { price, pins } => coupler_value(alloc, segment, price, pins),
+            Kind::Run { length } => run_value::<SECOND>(alloc, segment, length),
+            Kind::Coupler { price, pins } => {
+                coupler_value::<SECOND>(alloc, segment, price, pins)
+            }
         }
     }
 }
@@ -172,38 +232,38 @@ impl Shown for TerminalShown {
     }
 }
 
-/// Shows a net.
-struct NetShown;
+/// Shows a net, in the forms of the second version or in those of the first.
+struct NetShown<const SECOND: bool>;
 
-impl Shown for NetShown {
+impl<const SECOND: bool> Shown for NetShown<SECOND> {
     type Of = NetDraft;
 
-    ghost shows = { net_shown };
+    ghost shows = { net_shown SECOND };
 
     fn value(alloc: Global, net: &NetDraft) -> Result<Value, NoMemory> {
         let name = shown::name(alloc, &net.name)?;
         let terminals = array::<TerminalShown>(alloc, net.terminals.as_slice())?;
         let members = with(alloc, Map::new(alloc), "name", name)?;
         let members = with(alloc, members, "terminals", terminals)?;
-        Ok(Value::Object(members))
+        Ok(Value::Object(with_class::<SECOND>(alloc, members, net)?))
     }
 }
 
-/// Shows a project.
-pub(crate) struct ProjectShown;
+/// Shows a project, in the forms of the second version or in those of the first.
+pub(crate) struct ProjectShown<const SECOND: bool>;
 
-impl Shown for ProjectShown {
+impl<const SECOND: bool> Shown for ProjectShown<SECOND> {
     type Of = Draft;
 
-    ghost shows = { project_shown };
+    ghost shows = { project_shown SECOND };
 
     fn value(alloc: Global, draft: &Draft) -> Result<Value, NoMemory> {
         let cavities = array::<CavityShown>(alloc, draft.cavities.as_slice())?;
-        let nets = array::<NetShown>(alloc, draft.nets.as_slice())?;
+        let nets = array::<NetShown<SECOND>>(alloc, draft.nets.as_slice())?;
         let nodes = array::<NodeShown>(alloc, draft.nodes.as_slice())?;
         let options = array::<NameShown>(alloc, draft.options.as_slice())?;
         let rules = array::<FormulaShown>(alloc, draft.rules.as_slice())?;
-        let segments = array::<SegmentDraftShown>(alloc, draft.segments.as_slice())?;
+        let segments = array::<SegmentDraftShown<SECOND>>(alloc, draft.segments.as_slice())?;
         let members = with(alloc, Map::new(alloc), "cavities", cavities)?;
         let members = with(alloc, members, "nets", nets)?;
         let members = with(alloc, members, "nodes", nodes)?;

@@ -1,6 +1,3 @@
-ghost use Rattle.std.specs.Prelude.{◌≢◌};
-ghost use Rattle.loom_project.specs.declared.fault.ProjectFault.TheVariants.{NoMemory as OutOfMemory};
-
 use crate::{limit, project_fault};
 use loom_base::{List, Name, NoMemory, Which};
 use loom_json::line;
@@ -9,9 +6,7 @@ use std::alloc::Global;
 use std::test::Fail;
 
 /// The line of a fault's object.
-fn line_of(alloc: Global, fault: &ProjectFault) -> Result<List<u8>, NoMemory>
-    requires { fault.now ≢ OutOfMemory }
-{
+fn line_of(alloc: Global, fault: &ProjectFault) -> Result<List<u8>, NoMemory> {
     line(alloc, &project_fault(alloc, fault)?)
 }
 

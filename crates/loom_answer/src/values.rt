@@ -42,11 +42,24 @@ impl Shown for WholeShown {
     }
 }
 
+/// Shows a whole number of 16 bits.
+pub(crate) struct ShortShown;
+
+impl Shown for ShortShown {
+    type Of = u16;
+
+    ghost shows = { whole };
+
+    fn value(_alloc: Global, n: &u16) -> Result<Value, NoMemory> {
+        Ok(Value::from(*n))
+    }
+}
+
 /// An array of whole numbers.
 pub(crate) fn numbers(alloc: Global, ns: &[u64]) -> Result<Value, NoMemory>
     ensures { IfOk result (λ value. view value ≡ numbers_of ns.now) }
 {
-    let mut shown = Vec::new(alloc);
+    let mut shown = Vec::with_capacity(alloc, ns.len())?;
     for n in ns {
         shown.push(Value::from(*n))?;
     }
@@ -57,7 +70,8 @@ pub(crate) fn numbers(alloc: Global, ns: &[u64]) -> Result<Value, NoMemory>
 pub(crate) fn tagged(alloc: Global, tag: &str, ns: &[u64]) -> Result<Value, NoMemory>
     ensures { IfOk result (λ value. view value ≡ tagged_of tag.now ns.now) }
 {
-    let mut shown = vec![in alloc; shown::text(alloc, tag)?]?;
+    let mut shown = Vec::with_capacity(alloc, ns.len() + 1)?;
+    shown.push(shown::text(alloc, tag)?)?;
     for n in ns {
         shown.push(Value::from(*n))?;
     }

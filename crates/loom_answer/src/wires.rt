@@ -1,6 +1,7 @@
 //! How wires are printed.
-ghost use Rattle.std.specs.Prelude.{◌≡◌, ◌++◌, ◌∷◌, [], map, take, IfOk};
+ghost use Rattle.std.specs.Prelude.{◌≡◌, ◌++◌, ◌∷◌, [], map, take, false, IfOk};
 ghost use Rattle.serde_json.specs.View.{view};
+ghost use Rattle.serde_json.specs.Written.{has_float};
 ghost use Rattle.loom_answer.specs.Wires.{end_shown, segment_shown, wire_shown};
 
 use crate::values::{tagged, whole};
@@ -68,4 +69,14 @@ impl Shown for WireShown {
         let members = with(alloc, members, "to", to)?;
         Ok(Value::Object(members))
     }
+}
+
+/// The value of a wire, as it stands in the answer that has a plan. No number is a float. The one
+/// error is want of memory.
+#[tactic(auto, using(crate::proofs::WithoutFloats::plain_wire))]
+pub fn wire_value(alloc: Global, wire: &Wire) -> Result<Value, NoMemory>
+    ensures value { IfOk result (λ value. view value ≡ wire_shown wire.now) }
+    ensures plain { IfOk result (λ value. has_float (view value) ≡ false) }
+{
+    WireShown::value(alloc, wire)
 }
