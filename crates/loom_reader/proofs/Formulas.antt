@@ -14,7 +14,7 @@ members_form-each position [] = refl
 members_form-each position (d ∷ ds) = ap (λ rest. under (decimal position) (formula_form d) >>= λ f. rest >>= λ fs. Ok (f ∷ fs)) (members_form-each (suc position) ds)
 
 -- an array is read as the formula of its elements
-formula_form-items : (ds : List Data) → formula_form (array (items_of ds)) ≡ compound_form ds
+pub formula_form-items : (ds : List Data) → formula_form (array (items_of ds)) ≡ compound_form ds
 unfolding compound_form
 formula_form-items [] = refl
 formula_form-items (d ∷ ds) = rw (list_of-items_of ds, members_form-each 1 ds) refl

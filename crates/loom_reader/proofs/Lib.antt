@@ -1,1 +1,12 @@
 pub mod Formulas
+pub mod Plain
+pub mod Lines
+pub mod ToldParts
+pub mod Told
+pub mod FormulasTold
+pub mod ProjectTold
+pub mod Widths
+pub mod SoundTold
+pub mod PlanPlain
+pub mod OutcomePlain
+pub mod AnswerRead

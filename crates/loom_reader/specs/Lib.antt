@@ -1,5 +1,11 @@
 pub mod Formula
 pub mod Parts
 pub mod Project
+pub mod Ops
+pub mod Changes
+pub mod Entries
 pub mod Faults
 pub mod Document
+pub mod Written
+pub mod WrittenOutcomes
+pub mod ReadBack

@@ -1,3 +1,4 @@
+use loom_base::Which;
 use loom_json::{JsonStop, Path, ShapeStop};
 use loom_project::ProjectFault;
 
@@ -10,6 +11,8 @@ pub enum ReadFault {
     WrongShape { path: Path },
     /// The first failure of the project's draft, which is never `ProjectFault::NoMemory`.
     Project(ProjectFault),
+    /// There are more entries than the limit on edits; `count` is the limit and one.
+    Limit { which: Which, count: u64 },
     /// Memory ran out, wherever it was wanted.
     NoMemory,
 }

@@ -8,13 +8,13 @@ use loom_project::Draft;
 use serde_json::Value;
 use std::alloc::Global;
 
-/// A project.
-pub struct ProjectForm;
+/// A project, in the forms of a version.
+pub struct ProjectForm<const VERSION: u8>;
 
-impl Form for ProjectForm {
+impl<const VERSION: u8> Form for ProjectForm<VERSION> {
     type Out = Draft;
 
-    ghost reads = { project_form };
+    ghost reads = { project_form VERSION };
 
     #[tactic(auto, unfolding(crate::specs::Project::project_form))]
     fn read(alloc: Global, value: &Value) -> Result<Draft, ShapeStop> {
@@ -27,9 +27,9 @@ impl Form for ProjectForm {
             options: forms::at_key::<ListForm<NameForm>>(alloc, value, "options")?,
             rules: forms::at_key::<ListForm<FormulaForm>>(alloc, value, "rules")?,
             nodes: forms::at_key::<ListForm<NodeForm>>(alloc, value, "nodes")?,
-            segments: forms::at_key::<ListForm<SegmentForm>>(alloc, value, "segments")?,
+            segments: forms::at_key::<ListForm<SegmentForm<VERSION>>>(alloc, value, "segments")?,
             cavities: forms::at_key::<ListForm<CavityForm>>(alloc, value, "cavities")?,
-            nets: forms::at_key::<ListForm<NetForm>>(alloc, value, "nets")?,
+            nets: forms::at_key::<ListForm<NetForm<VERSION>>>(alloc, value, "nets")?,
         })
     }
 }
