@@ -3,6 +3,7 @@
 # input and output: whole documents, half a document, a closed input, a full output, and with too little memory.
 top=$(cd "$(dirname "$0")/.." && pwd) || exit 1
 document=$top/examples/one_wire.json
+variant='{"variant":{"numbers":[0],"wires":[{"from":["cavity",0],"length":700,"net":0,"route":[0],"row":1,"to":["cavity",1]}]},"version":1}'
 failed=0
 
 # ends STATUS WHAT COMMAND..: the command has to end with the status
@@ -25,10 +26,14 @@ plan_half() { head -c 100 "$document" | plan > /dev/null; }
 plan_closed() { plan <&- > /dev/null; }
 plan_full() { plan < "$document" > /dev/full; }
 plan_in_little_memory() { (ulimit -v 60000; head -c 67108864 /dev/zero | tr '\0' ' ' | plan > /dev/null); }
+extract_from_plan() {
+    plan < "$document" | sed 's/^{/{"choice":[],/' | "$top/bin/loom" extract 2>/dev/null | grep -qxF "$variant"
+}
 no_word() { "$top/bin/loom" < "$document" > /dev/null 2>&1; }
 
 ends 0 "a whole document" plan_document
 ends 0 "its line, compared with the wanted one," plan_whole
+ends 0 "the variant of an answer with a choice added" extract_from_plan
 ends 1 "half a document" plan_half
 ends 2 "a call without a word" no_word
 ends 3 "a closed input" plan_closed

@@ -1,30 +1,41 @@
 -- What the reading of bytes says of them, and of the reply that they get.
-use Rattle.std.proofs.Common.{inl, inr, map, get_or, [], ◌∷◌, bytes_eq, ◌<◌, IfOk, IfSome, ◌≡◌, ◌≢◌, ℕ, ◌≤◌, Bool, true, false, List, Option, Some, None, Result, Ok, Err, length, refl, sym, ◌∙◌, ap, subst, arith}
-use Rattle.std.specs.Cmp.Lexicographic.{bytes_decides}
-use Rattle.std.specs.Prelude.{⊤}
+use Rattle.std.proofs.Common.{inl, inr, [], ◌∷◌, ◌<◌, IfOk, IfSome, ◌≡◌, ◌≢◌, ℕ, ◌≤◌, Bool, true, false, List, Option, Some, None, Result, Ok, Err, length, refl, sym, ◌∙◌, ap, subst, arith}
+use Rattle.std.specs.Prelude.{⊤, ◌↔◌, IsTrue, if◌then◌else◌, nat_le}
+use Rattle.std.proofs.lemmas.Bool.{false≢true}
+use Rattle.std.specs.Option.{option_map_or}
+use Rattle.loom_base.specs.declared.limits.Which.{Which}
 use Rattle.loom_base.specs.Streams.{Takes}
 use Rattle.loom_base.proofs.StreamLemmas.{takes_known}
-use Rattle.loom_json.specs.Text.{line_of, read_json}
-use Rattle.std.specs.Option.{option_map_or}
 use Rattle.serde_json.specs.Data.{Data}
+use Rattle.loom_json.specs.Text.{line_of, read_json}
+use Rattle.loom_formula.specs.declared.choice.ChoiceFault.{ChoiceFault}
+use Rattle.loom_formula.specs.Choice.{choice_at, choice_of}
+use Rattle.loom_project.specs.declared.draft.Draft.{Draft}
 use Rattle.loom_project.specs.declared.fault.ProjectFault.{ProjectFault}
 use Rattle.loom_project.specs.Sound.{draft_check}
 use Rattle.loom_reader.specs.declared.document.Document.{Document}
+use Rattle.loom_reader.specs.declared.entry.Entry.{Entry}
 use Rattle.loom_reader.specs.declared.fault.ReadFault.{ReadFault}
 use Rattle.loom_reader.specs.declared.fault.ReadFault.TheVariants as faults
 use Rattle.loom_reader.specs.declared.fault.ReadFault.TheVariants.{NotJson}
 use Rattle.loom_reader.specs.declared.outline.Outline.{Outline}
-use Rattle.loom_reader.specs.Document.{document_of, shaped, checked, outline_form}
+use Rattle.loom_reader.specs.declared.want.Want.{Want}
+use Rattle.loom_base.specs.declared.limits.Which.TheVariants as limits
+use Rattle.loom_reader.specs.Document.{document_of, document_at, shaped, checked, outline_form}
 use Rattle.loom_types.specs.declared.stop.PlanStop.{PlanStop}
 use Rattle.loom_types.specs.declared.stop.PlanStop.TheVariants as stops
 use Rattle.loom_rules.specs.Judged.{Asked}
 use Rattle.loom_answer.specs.Stops.{IsNameable, named_of}
 use Rattle.loom_answer.specs.declared.named_stop.NamedStop.{NamedStop}
-use Rattle.loom_plan.specs.FirstStop.{FirstStop, HasPlan}
+use Rattle.loom_plan.specs.FirstStop.{FirstStop}
 use Rattle.loom_plan.specs.StopsLaw.{PlanExcludesStops}
-use Rattle.loom_project.specs.declared.draft.Draft.{Draft}
-use Rattle.loom_top.specs.Refusals.{IsCause, refusal_shown}
-use Rattle.loom_top.specs.Replies.{IsRead, Accepts, Refuses, IsRefused, IsReply}
+use Rattle.loom_extract.specs.Variant.{first_false}
+use Rattle.loom_top.specs.Refusals.{refusal_shown}
+use Rattle.loom_top.specs.Jobs.{want_of, AskFor, Obeys, IsRefused, HasAnswer}
+use Rattle.loom_top.specs.Replies.{Accepts, Refuses, IsReply}
+use Rattle.loom_top.specs.RepliesInside.{IsReplyTo}
+use Rattle.loom_top.specs.declared.job.Job.{Job}
+use Rattle.loom_top.specs.declared.job.Job.TheVariants as jobs
 use Rattle.loom_top.specs.declared.reply.Reply.{Reply}
 use Rattle.loom_top.specs.declared.refusal.Refusal.{Refusal}
 use Rattle.loom_top.specs.declared.refusal.Refusal.TheVariants as refusals
@@ -36,8 +47,12 @@ use Rattle.loom_top.specs.declared.status.Status.TheVariants as status
 abbrev pub Reading : Type 0
 Reading = Result Document ReadFault
 
+limited_is_json : (few : Bool) (outline : Outline) → ◌≢◌ {A = Reading} (if few then Ok (document_at outline) else Err (faults.Limit limits.Edits 4097)) (Err NotJson)
+limited_is_json true outline h = absurd (cc)
+limited_is_json false outline h = absurd (cc)
+
 checked_is_json : (outline : Outline) (check : Result ⊤ ProjectFault) → checked outline check ≢ Err NotJson
-checked_is_json outline (Ok passed) h = absurd (cc)
+checked_is_json outline (Ok passed) h = limited_is_json (nat_le (length outline.entries) 4096) outline h
 checked_is_json outline (Err failure) h = absurd (cc)
 
 -- a value that has a form to be looked at isn't refused as no JSON text
@@ -45,116 +60,170 @@ shaped_is_json : (outline : Result Outline (List ℕ)) → shaped outline ≢ Er
 shaped_is_json (Ok outline) h = checked_is_json outline (draft_check outline.draft) h
 shaped_is_json (Err path) h = absurd (cc)
 
-abbrev pub reading_of : Option Data → Reading
-reading_of json = option_map_or (λ d. shaped (outline_form d)) json (Err NotJson)
+abbrev pub reading_of : Want → Option Data → Reading
+reading_of want json = option_map_or (λ d. shaped (outline_form want d)) json (Err NotJson)
 
-some_json : (json : Option Data) (reading : Reading) → reading ≢ Err NotJson → reading_of json ≡ reading → (d : Data) × (json ≡ Some d)
-some_json None reading other h = absurd (other (sym h))
-some_json (Some d) reading other h = (d, refl)
+some_json : (want : Want) (json : Option Data) (reading : Reading) → reading ≢ Err NotJson → reading_of want json ≡ reading → (d : Data) × (json ≡ Some d)
+some_json want None reading other h = absurd (other (sym h))
+some_json want (Some d) reading other h = (d, refl)
 
-none_json : (json : Option Data) → reading_of json ≡ Err NotJson → json ≡ None
-none_json None h = refl
-none_json (Some d) h = absurd (shaped_is_json (outline_form d) h)
+none_json : (want : Want) (json : Option Data) → reading_of want json ≡ Err NotJson → json ≡ None
+none_json want None h = refl
+none_json want (Some d) h = absurd (shaped_is_json (outline_form want d) h)
 
 -- bytes that are read, or fail later, are a JSON text
-json_of : (input : List ℕ) (reading : Reading) → reading ≢ Err NotJson → document_of input ≡ reading → (d : Data) × (read_json input ≡ Some d)
+json_of : (want : Want) (input : List ℕ) (reading : Reading) → reading ≢ Err NotJson → document_of want input ≡ reading → (d : Data) × (read_json input ≡ Some d)
 unfolding document_of
-json_of input reading other h = some_json (read_json input) reading other h
+json_of want input reading other h = some_json want (read_json input) reading other h
 
 -- bytes that fail so are none
-no_json_of : (input : List ℕ) → document_of input ≡ Err NotJson → read_json input ≡ None
+no_json_of : (want : Want) (input : List ℕ) → document_of want input ≡ Err NotJson → read_json input ≡ None
 unfolding document_of
-no_json_of input h = none_json (read_json input) h
+no_json_of want input h = none_json want (read_json input) h
 
-abbrev pub or_else : Document → Reading → Document
-or_else other (Ok document) = document
+abbrev pub or_else : {A E : Type 0} → A → Result A E → A
+or_else other (Ok value) = value
 or_else other (Err fault) = other
 
-same_document : (a b : Document) (reading : Reading) → reading ≡ Ok a → reading ≡ Ok b → a ≡ b
-same_document a b reading h k = ap (or_else a) (sym h ∙ k)
+same_value : {A E : Type 0} (a b : A) (result : Result A E) → result ≡ Ok a → result ≡ Ok b → a ≡ b
+same_value a b result h k = ap (or_else a) (sym h ∙ k)
 
 document_is_no_fault : (document : Document) (fault : ReadFault) → Ok document ≢ Err fault
 document_is_no_fault document fault h = absurd (cc)
 
+values_are_no_fault : (values : List Bool) (fault : ChoiceFault) (made : Result (List Bool) ChoiceFault) → made ≡ Ok values → made ≡ Err fault → ⊥
+values_are_no_fault values fault made is fails = absurd (cc)
+
+none_is_not_some : (found : Option ℕ) (rule : ℕ) → found ≡ None → found ≡ Some rule → ⊥
+none_is_not_some found rule none some = absurd (cc)
+
 -- what a refusal's line replies to
-pub reply_refuses : (rules : List Asked) (input line : List ℕ) (is_done : Bool) (refusal : Refusal) → Refuses input refusal
-    → is_done ≡ false → line ≡ line_of (refusal_shown refusal) → IsReply rules input is_done line
-reply_refuses rules input line is_done refusal refused not_done line_is =
-    let declines : IsReply rules input false line = record { refusal = refusal; refused = refused; line_is = line_is } in
-    subst (λ (b : Bool). IsReply rules input b line) (sym not_done) declines
+pub reply_refuses : (rules : List Asked) (job : Job) (input line : List ℕ) (is_done : Bool) (refusal : Refusal) → Refuses job input refusal
+    → is_done ≡ false → line ≡ line_of (refusal_shown refusal) → IsReply rules job input is_done line
+reply_refuses rules job input line is_done refusal refused not_done line_is =
+    let declines : IsReply rules job input false line = (refusal, refused, line_is) in
+    subst (λ (b : Bool). IsReply rules job input b line) (sym not_done) declines
 
 -- the reply that refuses bytes
-pub bytes_refused : {E : Type 0} (rules : List Asked) (input : List ℕ) (refusal : Refusal) (result : Result Reply E) → Refuses input refusal
+pub bytes_refused : {E : Type 0} (rules : List Asked) (job : Job) (input : List ℕ) (refusal : Refusal) (result : Result Reply E) → Refuses job input refusal
     → IfOk result (λ reply. reply.is_done ≡ false) → IfOk result (λ reply. reply.line ≡ line_of (refusal_shown refusal))
-    → IfOk result (λ reply. IsReply rules input reply.is_done reply.line)
-bytes_refused rules input refusal (Ok reply) refused not_done line_is =
-    reply_refuses rules input reply.line reply.is_done refusal refused not_done line_is
-bytes_refused rules input refusal (Err e) refused not_done line_is = _
+    → IfOk result (λ reply. IsReply rules job input reply.is_done reply.line)
+bytes_refused rules job input refusal (Ok reply) refused not_done line_is =
+    reply_refuses rules job input reply.line reply.is_done refusal refused not_done line_is
+bytes_refused rules job input refusal (Err e) refused not_done line_is = _
 
--- the reply that refuses a document
-pub document_refused : {E : Type 0} (rules : List Asked) (document : Document) (refusal : Refusal) (result : Result Reply E) → IsRefused document refusal
+-- the reply that refuses a document, whichever rules there are
+pub document_refused : {E : Type 0} (job : Job) (document : Document) (refusal : Refusal) (result : Result Reply E) → IsRefused job document refusal
     → IfOk result (λ reply. reply.is_done ≡ false) → IfOk result (λ reply. reply.line ≡ line_of (refusal_shown refusal))
-    → IfOk result (λ reply. (input : List ℕ) → IsRead input document → IsReply rules input reply.is_done reply.line)
-document_refused rules document refusal (Ok reply) refused not_done line_is = λ input read.
-    reply_refuses rules input reply.line reply.is_done refusal (Refuses.not_planned document read refusal refused) not_done line_is
-document_refused rules document refusal (Err e) refused not_done line_is = _
+    → IfOk result (λ reply. (rules : List Asked) → IsReplyTo rules job document reply)
+document_refused job document refusal (Ok reply) refused not_done line_is = λ rules input read.
+    reply_refuses rules job input reply.line reply.is_done refusal (Refuses.not_answered document read refusal refused) not_done line_is
+document_refused job document refusal (Err e) refused not_done line_is = _
 
--- the same whichever rules there are
-pub document_refused_any : {E : Type 0} (document : Document) (refusal : Refusal) (result : Result Reply E) → IsRefused document refusal
-    → IfOk result (λ reply. reply.is_done ≡ false) → IfOk result (λ reply. reply.line ≡ line_of (refusal_shown refusal))
-    → IfOk result (λ reply. (rules : List Asked) (input : List ℕ) → IsRead input document → IsReply rules input reply.is_done reply.line)
-document_refused_any document refusal (Ok reply) refused not_done line_is = λ rules input read.
-    reply_refuses rules input reply.line reply.is_done refusal (Refuses.not_planned document read refusal refused) not_done line_is
-document_refused_any document refusal (Err e) refused not_done line_is = _
+-- what is said of a reply whichever rules there are holds for some rules
+pub under_rules : {E : Type 0} (rules : List Asked) (job : Job) (document : Document) (result : Result Reply E)
+    → IfOk result (λ reply. (rules : List Asked) → IsReplyTo rules job document reply) → IfOk result (IsReplyTo rules job document)
+under_rules rules job document (Ok reply) told = told rules
+under_rules rules job document (Err e) told = _
 
 -- want of memory has no name
 nameable_stop : (draft : Draft) (stop : PlanStop) → stop ≡ stops.NoMemory → IsNameable draft stop → ⊥
 nameable_stop draft stop e nameable = subst (IsNameable draft) e nameable
 
--- a document without edits whose planning stops is refused by the stop's name
-pub stops_planning : (document : Document) (count : ℕ) (stop : PlanStop) (named : NamedStop) → document.edit_count ≡ count → count ≡ 0
-    → FirstStop document.project stop → IsNameable document.project stop → named ≡ named_of document.project stop → IsRefused document (refusals.Plan named)
-stops_planning document count stop named counted none is nameable same = (counted ∙ none, (stop, is, nameable, same))
+-- a document with edits is refused, whatever is asked for
+-- a list that isn't empty has an element
+pub some_entries : (b : Bool) (entries : List Entry) → (IsTrue b ↔ (entries ≡ [])) → b ≡ false → 0 < length entries
+some_entries true entries empty other = absurd (cc)
+some_entries false [] empty other = absurd (false≢true (empty.1 refl))
+some_entries false (entry ∷ entries) empty other = omega arith
 
--- a document with a plan isn't refused
-not_refused : PlanExcludesStops → (document : Document) → document.edit_count ≡ 0 → HasPlan document.project → (refusal : Refusal) → IsRefused document refusal → ⊥
-not_refused law document unedited plan NotBuilt edited = absurd (omega (arith, edited, unedited))
-not_refused law document unedited plan (refusals.Plan stop) (none, (first, is, nameable, same)) =
+pub edits_refuse : (job : Job) (document : Document) → 0 < length document.entries → IsRefused job document NotBuilt
+edits_refuse jobs.Plan document edited = edited
+edits_refuse jobs.Extract document edited = edited
+
+-- a document without edits whose planning stops is refused by the stop's name
+pub stops_planning : (document : Document) (stop : PlanStop) (named : NamedStop) → length document.entries ≡ 0
+    → FirstStop document.project stop → IsNameable document.project stop → named ≡ named_of document.project stop → IsRefused jobs.Plan document (refusals.Plan named)
+stops_planning document stop named unedited is nameable same = (unedited, (stop, is, nameable, same))
+
+-- a document to which there is an answer isn't refused
+not_refused : PlanExcludesStops → (job : Job) (document : Document) → length document.entries ≡ 0 → HasAnswer job document → (refusal : Refusal) → IsRefused job document refusal → ⊥
+not_refused law jobs.Plan document unedited plan NotBuilt edited = absurd (omega (arith, edited, unedited))
+not_refused law jobs.Plan document unedited plan (refusals.Plan stop) (none, (first, is, nameable, same)) =
     nameable_stop document.project first (law document.project first plan is) nameable
-not_refused law document unedited plan TooLong refused = refused
-not_refused law document unedited plan refusals.NotJson refused = refused
-not_refused law document unedited plan (refusals.WrongShape path) refused = refused
-not_refused law document unedited plan (refusals.Project fault) refused = refused
+not_refused law jobs.Plan document unedited plan (refusals.Choice fault) refused = refused
+not_refused law jobs.Plan document unedited plan (refusals.BrokenRule rule) refused = refused
+not_refused law jobs.Plan document unedited plan TooLong refused = refused
+not_refused law jobs.Plan document unedited plan refusals.NotJson refused = refused
+not_refused law jobs.Plan document unedited plan (refusals.WrongShape path) refused = refused
+not_refused law jobs.Plan document unedited plan (refusals.Project fault) refused = refused
+not_refused law jobs.Plan document unedited plan (refusals.Limit which count) refused = refused
+not_refused law jobs.Extract document unedited answer NotBuilt edited = absurd (omega (arith, edited, unedited))
+not_refused law jobs.Extract document unedited answer (refusals.Plan stop) refused = refused
+not_refused law jobs.Extract document unedited (values, made, obeyed) (refusals.Choice fault) (none, other, fails) =
+    values_are_no_fault values fault (choice_of document.project.options document.choice) made fails
+not_refused law jobs.Extract document unedited (values, made, obeyed) (refusals.BrokenRule rule) (none, (others, made_too, broken)) =
+    let same : values ≡ others = same_value values others (choice_of document.project.options document.choice) made made_too in
+    none_is_not_some (first_false document.project.rules document.project.options (choice_at others)) rule
+    (subst (λ (v : List Bool). Obeys document.project v) same obeyed) broken
+not_refused law jobs.Extract document unedited answer TooLong refused = refused
+not_refused law jobs.Extract document unedited answer refusals.NotJson refused = refused
+not_refused law jobs.Extract document unedited answer (refusals.WrongShape path) refused = refused
+not_refused law jobs.Extract document unedited answer (refusals.Project fault) refused = refused
+not_refused law jobs.Extract document unedited answer (refusals.Limit which count) refused = refused
 
 -- an input that is accepted isn't refused
-accepted_not_refused : PlanExcludesStops → (input : List ℕ) (refusal : Refusal) → Accepts input → Refuses input refusal → ⊥
-accepted_not_refused law input refusal accepted (Refuses.too_long long) = absurd (omega (arith, long, accepted.read.short))
-accepted_not_refused law input refusal accepted (Refuses.not_json short none) =
-    let json = json_of input (Ok accepted.document) (document_is_no_fault accepted.document NotJson) accepted.read.document_is in
+accepted_not_refused : PlanExcludesStops → (job : Job) (input : List ℕ) (refusal : Refusal) → Accepts job input → Refuses job input refusal → ⊥
+accepted_not_refused law job input refusal accepted (Refuses.too_long long) = absurd (omega (arith, long, accepted.read.short))
+accepted_not_refused law job input refusal accepted (Refuses.not_json short none) =
+    let json = json_of (want_of job) input (Ok accepted.document) (document_is_no_fault accepted.document NotJson) accepted.read.document_is in
     absurd (cc)
-accepted_not_refused law input refusal accepted (Refuses.not_shaped short path fails) =
+accepted_not_refused law job input refusal accepted (Refuses.not_shaped short path fails) =
     document_is_no_fault accepted.document (faults.WrongShape path) (sym accepted.read.document_is ∙ fails)
-accepted_not_refused law input refusal accepted (Refuses.not_sound short fault fails) =
+accepted_not_refused law job input refusal accepted (Refuses.not_sound short fault fails) =
     document_is_no_fault accepted.document (faults.Project fault) (sym accepted.read.document_is ∙ fails)
-accepted_not_refused law input refusal accepted (Refuses.not_planned document read cause refused) =
-    let same : document ≡ accepted.document = same_document document accepted.document (document_of input) read.document_is accepted.read.document_is in
-    let here : IsRefused accepted.document cause = subst (λ (d : Document). IsRefused d cause) same refused in
-    not_refused law accepted.document accepted.unedited accepted.has_plan cause here
+accepted_not_refused law job input refusal accepted (Refuses.too_many short which count fails) =
+    document_is_no_fault accepted.document (faults.Limit which count) (sym accepted.read.document_is ∙ fails)
+accepted_not_refused law job input refusal accepted (Refuses.not_answered document read cause refused) =
+    let same : document ≡ accepted.document = same_value document accepted.document (document_of (want_of job) input) read.document_is accepted.read.document_is in
+    let here : IsRefused job accepted.document cause = subst (λ (d : Document). IsRefused job d cause) same refused in
+    not_refused law job accepted.document accepted.unedited accepted.has_answer cause here
 
 -- more bytes were taken than an input may have
-pub too_long_reply : (rules : List Asked) (left new : Option (List ℕ)) (line : List ℕ) (is_done : Bool) → Takes left new 67108865
-    → is_done ≡ false → line ≡ line_of (refusal_shown TooLong) → IfSome left (λ input. IsReply rules input is_done line)
-too_long_reply rules None new line is_done takes not_done line_is = _
-too_long_reply rules (Some input) new line is_done takes not_done line_is =
-    reply_refuses rules input line is_done TooLong (Refuses.too_long (omega (arith, takes_known input new 67108865 takes))) not_done line_is
+pub too_long_reply : (rules : List Asked) (job : Job) (left new : Option (List ℕ)) (line : List ℕ) (is_done : Bool) → Takes left new 67108865
+    → is_done ≡ false → line ≡ line_of (refusal_shown TooLong) → IfSome left (λ input. IsReply rules job input is_done line)
+too_long_reply rules job None new line is_done takes not_done line_is = _
+too_long_reply rules job (Some input) new line is_done takes not_done line_is =
+    reply_refuses rules job input line is_done TooLong (Refuses.too_long (omega (arith, takes_known input new 67108865 takes))) not_done line_is
+
+-- the one word of a list of one
+abbrev first_of : List (List ℕ) → List ℕ
+first_of [] = []
+first_of (w ∷ ws) = w
+
+-- the same words ask for one job
+pub same_job : (words : List (List ℕ)) (one other : Job) → AskFor one words → AskFor other words → one ≡ other
+same_job words jobs.Plan jobs.Plan first second = refl
+same_job words jobs.Extract jobs.Extract first second = refl
+same_job words jobs.Plan jobs.Extract first second =
+    let lengths : 4 ≡ 7 = ap (λ l. length (first_of l)) (sym first ∙ second) in
+    absurd (omega (arith, lengths))
+same_job words jobs.Extract jobs.Plan first second =
+    let lengths : 7 ≡ 4 = ap (λ l. length (first_of l)) (sym first ∙ second) in
+    absurd (omega (arith, lengths))
+
+-- a line that says why an input is refused doesn't reply to one that is accepted
+accepted_not_declined : PlanExcludesStops → (rules : List Asked) (job : Job) (input line : List ℕ) → Accepts job input → IsReply rules job input false line → ⊥
+accepted_not_declined law rules job input line accepted (refusal, refused, line_is) = accepted_not_refused law job input refusal accepted refused
 
 -- a reply to an input that is accepted isn't a refusal
-pub reply_accepts : PlanExcludesStops → (rules : List Asked) (left : Option (List ℕ)) (input line : List ℕ) (is_done : Bool) → left ≡ Some input → Accepts input
-    → is_done ≡ false → IfSome left (λ input. IsReply rules input is_done line) → ⊥
-reply_accepts law rules left input line is_done known accepted not_done reply =
-    let told : IsReply rules input is_done line = subst (λ (l : Option (List ℕ)). IfSome l (λ input. IsReply rules input is_done line)) known reply in
-    let declines : IsReply rules input false line = subst (λ (b : Bool). IsReply rules input b line) not_done told in
-    accepted_not_refused law input declines.refusal accepted declines.refused
+pub reply_accepts : PlanExcludesStops → (rules : List Asked) (words : List (List ℕ)) (given job : Job) → AskFor given words → AskFor job words
+    → (left : Option (List ℕ)) (input line : List ℕ) (is_done : Bool) → left ≡ Some input → Accepts job input
+    → is_done ≡ false → IfSome left (λ input. IsReply rules given input is_done line) → ⊥
+reply_accepts law rules words given job asked_given asked left input line is_done known accepted not_done reply =
+    let told : IsReply rules given input is_done line = subst (λ (l : Option (List ℕ)). IfSome l (λ input. IsReply rules given input is_done line)) known reply in
+    let here : IsReply rules job input is_done line = subst (λ (j : Job). IsReply rules j input is_done line) (same_job words given job asked_given asked) told in
+    accepted_not_declined law rules job input line accepted (subst (λ (b : Bool). IsReply rules job input b line) not_done here)
 
 -- what is neither silent, refused nor a fault is done
 pub done_of : (s : Status) → (IsSilent s → ⊥) → (s ≡ status.Refused → ⊥) → (s ≡ status.WriteFault → ⊥) → s ≡ status.Done
@@ -164,24 +233,6 @@ done_of status.Usage loud refused fault = absurd (loud (inl refl))
 done_of status.ReadFault loud refused fault = absurd (loud (inr (inl refl)))
 done_of status.WriteFault loud refused fault = absurd (fault refl)
 done_of status.NoMemory loud refused fault = absurd (loud (inr (inr refl)))
-
-abbrev pub first_of : List (List ℕ) → List ℕ
-first_of [] = []
-first_of (w ∷ ws) = w
-
--- one word is compared with the wanted one
-pub is_word : (words : List (List ℕ)) (word given wanted : List ℕ) (b : Bool) → words ≡ word ∷ [] → given ≡ word → b ≡ bytes_eq given wanted
-    → (b ≡ true → words ≡ wanted ∷ []) × (words ≡ wanted ∷ [] → b ≡ true)
-is_word words word given wanted b one same compared = (
-  (λ h. one ∙ ap (λ (w : List ℕ). w ∷ []) (sym same ∙ (bytes_decides given wanted).0 (sym compared ∙ h))),
-  (λ e. compared ∙ (bytes_decides given wanted).1 (same ∙ ap first_of (sym one ∙ e))),
-)
-
--- a list of one element
-pub one_element : {A B : Type 0} (f : A → B) (xs : List A) (x : A) → 1 ≤ length xs → length xs < 2 → x ≡ get_or xs 0 x → map f xs ≡ f x ∷ []
-one_element f [] x some few e = absurd (omega (arith, some))
-one_element f (y ∷ []) x some few e = ap (λ z. f z ∷ []) (sym e)
-one_element f (y ∷ z ∷ xs) x some few e = absurd (omega (arith, few))
 
 shape_differs : (fault : ReadFault) (path : List ℕ) → fault ≡ faults.WrongShape path → fault ≢ faults.NoMemory
 shape_differs fault path e h = absurd (cc)
@@ -193,15 +244,25 @@ no_json_differs : (fault : ReadFault) → fault ≡ NotJson → fault ≢ faults
 no_json_differs fault e h = absurd (cc)
 
 -- what a reading that failed says, by its fault
-pub refuses_no_json : (input : List ℕ) (fault : ReadFault) → length input ≤ 67108864 → fault ≡ NotJson
-    → (fault ≢ faults.NoMemory → document_of input ≡ Err fault) → Refuses input refusals.NotJson
-refuses_no_json input fault short e gives =
-    Refuses.not_json short (no_json_of input (gives (no_json_differs fault e) ∙ ap Err e))
+pub refuses_no_json : (job : Job) (want : Want) (input : List ℕ) (fault : ReadFault) → want ≡ want_of job → length input ≤ 67108864 → fault ≡ NotJson
+    → (fault ≢ faults.NoMemory → document_of want input ≡ Err fault) → Refuses job input refusals.NotJson
+refuses_no_json job want input fault wanted short e gives =
+    Refuses.not_json short (no_json_of want input (gives (no_json_differs fault e) ∙ ap Err e))
 
-pub refuses_shape : (input path : List ℕ) (fault : ReadFault) → length input ≤ 67108864 → fault ≡ faults.WrongShape path
-    → (fault ≢ faults.NoMemory → document_of input ≡ Err fault) → Refuses input (refusals.WrongShape path)
-refuses_shape input path fault short e gives = Refuses.not_shaped short path (gives (shape_differs fault path e) ∙ ap Err e)
+pub refuses_shape : (job : Job) (want : Want) (input path : List ℕ) (fault : ReadFault) → want ≡ want_of job → length input ≤ 67108864 → fault ≡ faults.WrongShape path
+    → (fault ≢ faults.NoMemory → document_of want input ≡ Err fault) → Refuses job input (refusals.WrongShape path)
+refuses_shape job want input path fault wanted short e gives =
+    Refuses.not_shaped short path (ap (λ w. document_of w input) (sym wanted) ∙ gives (shape_differs fault path e) ∙ ap Err e)
 
-pub refuses_project : (input : List ℕ) (cause : ProjectFault) (fault : ReadFault) → length input ≤ 67108864 → fault ≡ faults.Project cause
-    → (fault ≢ faults.NoMemory → document_of input ≡ Err fault) → Refuses input (refusals.Project cause)
-refuses_project input cause fault short e gives = Refuses.not_sound short cause (gives (project_differs fault cause e) ∙ ap Err e)
+pub refuses_project : (job : Job) (want : Want) (input : List ℕ) (cause : ProjectFault) (fault : ReadFault) → want ≡ want_of job → length input ≤ 67108864 → fault ≡ faults.Project cause
+    → (fault ≢ faults.NoMemory → document_of want input ≡ Err fault) → Refuses job input (refusals.Project cause)
+refuses_project job want input cause fault wanted short e gives =
+    Refuses.not_sound short cause (ap (λ w. document_of w input) (sym wanted) ∙ gives (project_differs fault cause e) ∙ ap Err e)
+
+limit_differs : (fault : ReadFault) (which : Which) (count : ℕ) → fault ≡ faults.Limit which count → fault ≢ faults.NoMemory
+limit_differs fault which count e h = absurd (cc)
+
+pub refuses_limit : (job : Job) (want : Want) (input : List ℕ) (which : Which) (count : ℕ) (fault : ReadFault) → want ≡ want_of job → length input ≤ 67108864
+    → fault ≡ faults.Limit which count → (fault ≢ faults.NoMemory → document_of want input ≡ Err fault) → Refuses job input (refusals.Limit which count)
+refuses_limit job want input which count fault wanted short e gives =
+    Refuses.too_many short which count (ap (λ w. document_of w input) (sym wanted) ∙ gives (limit_differs fault which count e) ∙ ap Err e)

@@ -1,3 +1,4 @@
 pub mod Documents
 pub mod NameableStops
+pub mod Variants
 pub mod Written

@@ -1,5 +1,5 @@
 -- What a first stop tells by position is in range, so it has a name.
-use Rattle.std.proofs.Common.{◌≡◌, ◌≢◌, ℕ, ◌<◌, Bool, true, false, List, ◌∷◌, length, map, get_or, Some, Ok, refl, sym, ap, subst, ◌∙◌, arith, IsTrue, Contains, inl, inr}
+use Rattle.std.proofs.Common.{◌≡◌, ◌≢◌, ℕ, ◌<◌, Bool, false, List, length, map, get_or, Ok, refl, sym, ap, subst, ◌∙◌, arith, IsTrue, Contains, inl, inr}
 use Rattle.std.specs.List.{All}
 use Rattle.std.specs.Prelude.{filter}
 use Rattle.std.proofs.lemmas.Bool.{cases_lt, and_parts, eqb-true, true≢false}
@@ -8,21 +8,21 @@ use Rattle.loom_base.specs.declared.positions.NodeNo.{NodeNo}
 use Rattle.loom_base.proofs.Contained.{Contains-map, Contains-from_map}
 use Rattle.loom_formula.specs.Choice.{choice_at}
 use Rattle.loom_formula.specs.Formula.{holds_of}
-use Rattle.loom_topology.specs.Topology.{TopologyView, IsSound, node_of, segment_at, is_coupler, no_segment}
+use Rattle.loom_topology.specs.Topology.{TopologyView, IsSound, segment_at, is_coupler, no_segment}
 use Rattle.loom_topology.specs.Legal.{chosen}
 use Rattle.loom_topology.specs.Reach.{IsReached}
 use Rattle.loom_topology.proofs.LeastLegal.{leads_below}
 use Rattle.loom_project.specs.declared.draft.Draft.{Draft}
 use Rattle.loom_project.specs.declared.draft.TerminalDraft.{TerminalDraft}
 use Rattle.loom_project.specs.Draft.{index_of, cavity_names}
-use Rattle.loom_project.specs.Project.{topology_of, net_topology, net_at, no_net, cavities_of, HasSoundTopologies}
+use Rattle.loom_project.specs.Project.{topology_of, net_topology, no_net, cavities_of, HasSoundTopologies}
 use Rattle.loom_project.specs.Sound.{draft_check}
 use Rattle.loom_project.proofs.PartsLemmas.{count_segments, count_net_nodes, count_net_cavities}
 use Rattle.loom_types.specs.declared.stop.PlanStop.{PlanStop}
 use Rattle.loom_types.specs.declared.stop.PlanStop.TheVariants as stops
 use Rattle.loom_types.specs.declared.plan.SetLine.{SetLine}
 use Rattle.loom_types.specs.SetMask.{stem_node}
-use Rattle.loom_types.specs.Slots.{Slot, IsSlotOf, has_slot}
+use Rattle.loom_types.specs.Slots.{Slot, has_slot}
 use Rattle.loom_active.specs.Needs.{need_of}
 use Rattle.loom_active.specs.LiveSets.{need_mask, IsLiveSet}
 use Rattle.loom_active.proofs.ClashLemmas.{place_in}
@@ -30,9 +30,8 @@ use Rattle.loom_active.proofs.NeedMasks.{need-chosen}
 use Rattle.loom_active.proofs.Pairs.{at_index}
 use Rattle.loom_active.proofs.SetLemmas.{live-in_range}
 use Rattle.loom_laid.specs.declared.laid_set.LaidSet.{LaidSet}
-use Rattle.loom_laid.specs.declared.stop.LaidStop.TheVariants as laid
 use Rattle.loom_laid.specs.LaidSets.{live_of}
-use Rattle.loom_plan.specs.FirstStop.{FirstStop, StopsLaying, LacksPin, LaysSets}
+use Rattle.loom_plan.specs.FirstStop.{FirstStop, LacksPin, LaysSets}
 use Rattle.loom_plan.specs.Work.{line_of}
 use Rattle.loom_plan.proofs.PrintedSets.{chosen-member, All-member, set_in_range}
 use Rattle.loom_answer.specs.Stops.{IsNameable}

@@ -1,0 +1,75 @@
+//! The line that replies to an input.
+ghost use Rattle.std.specs.Prelude.{◌≡◌, ◌≢◌, ◌≤◌, [], false, map, is_some, IfOk, IsTrue, length};
+ghost use Rattle.std.specs.List.{All};
+ghost use Rattle.loom_json.specs.Text.{line_of};
+ghost use Rattle.loom_top.specs.Refusals.{refusal_shown};
+ghost use Rattle.loom_top.specs.Replies.{IsReply};
+ghost use Rattle.loom_top.specs.RepliesInside.{IsReplyTo};
+
+use crate::job::Job;
+use crate::plan_reply::plan_reply;
+use crate::refusal::Refusal;
+use crate::reply::Reply;
+use crate::variant_reply::variant_reply;
+use loom_base::NoMemory;
+use loom_reader::{Document, ReadFault, read};
+use loom_rules::DesignRule;
+use std::alloc::Global;
+
+/// The reply to a document that was read for a job. Under `Extract` it has a plan.
+fn answered(
+    alloc: Global,
+    job: Job,
+    document: &Document,
+    rules: &mut Vec<Box<dyn DesignRule>>,
+) -> Result<Reply, NoMemory>
+    requires plan { job ≢ Job.Plan → IsTrue (is_some document.now.plan) }
+    requires unseen { All (λ rule. seen_by rule ≡ []) rules.old.items }
+    ensures { IfOk result (IsReplyTo
+        (map (λ rule. record { kind = kind_of rule; limit = limit_of rule }) rules.old.items)
+        job document.now) }
+{
+    if !document.entries.is_empty() {
+        return Reply::refused(alloc, &Refusal::NotBuilt);
+    }
+    match job {
+        Job::Plan => plan_reply(alloc, document, rules),
+        Job::Extract => variant_reply(alloc, document),
+    }
+}
+
+/// The reply to an input of at most 67,108,864 bytes. Under `Plan` the rules are shown the wires of
+/// its plan.
+pub fn reply_to(
+    alloc: Global,
+    job: Job,
+    input: &[u8],
+    rules: &mut Vec<Box<dyn DesignRule>>,
+) -> Result<Reply, NoMemory>
+    requires short { length input.now ≤ 67108864 }
+    requires unseen { All (λ rule. seen_by rule ≡ []) rules.old.items }
+    ensures { IfOk result (λ reply. IsReply
+        (map (λ rule. record { kind = kind_of rule; limit = limit_of rule }) rules.old.items)
+        job input.now reply.is_done reply.line) }
+{
+    match read(alloc, input, job.want()) {
+        Ok(document) => answered(alloc, job, &document, rules),
+        Err(ReadFault::NotJson) => Reply::refused(alloc, &Refusal::NotJson),
+        Err(ReadFault::WrongShape { path }) => {
+            Reply::refused(alloc, &Refusal::WrongShape { path })
+        }
+        Err(ReadFault::Project(fault)) => Reply::refused(alloc, &Refusal::Project(fault)),
+        Err(ReadFault::Limit { which, count }) => {
+            Reply::refused(alloc, &Refusal::Limit { which, count })
+        }
+        Err(ReadFault::NoMemory) => Err(NoMemory),
+    }
+}
+
+/// The reply to an input that is too long.
+pub fn too_long(alloc: Global) -> Result<Reply, NoMemory>
+    ensures not_done { IfOk result (λ reply. reply.is_done ≡ false) }
+    ensures line { IfOk result (λ reply. reply.line ≡ line_of (refusal_shown Refusal.TooLong)) }
+{
+    Reply::refused(alloc, &Refusal::TooLong)
+}
