@@ -1,6 +1,6 @@
 -- How the open segments at a node lead to other nodes.
-use Rattle.std.proofs.Common.{◌≡◌, ◌<◌, ◌≤◌, ◌+◌, ◌||◌, ◌⊎◌, ◌∷◌, length, get_or, ℕ, List, Some, None, Bool, true, false, cond, eqb, sym, ap, ◌∙◌, arith, subst, inl, inr, zero, suc}
-use Rattle.std.specs.List.{All, Contains, filter, range_with_len}
+use Rattle.std.proofs.Common.{◌≡◌, ◌<◌, ◌+◌, ◌||◌, ◌⊎◌, length, get_or, ℕ, List, Some, None, true, false, cond, eqb, sym, ap, ◌∙◌, arith, inl, inr}
+use Rattle.std.specs.List.{All, Contains, range_with_len}
 use Rattle.std.specs.List.Sorted.{IsStrictlyIncreasing}
 use Rattle.std.proofs.Math.Bool.{or-true}
 use Rattle.std.proofs.lemmas.Bool.{and_parts, and_from, both_ways, eq-eqb, ne_eqb, cases_eq, cases_lt}

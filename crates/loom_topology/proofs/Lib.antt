@@ -28,3 +28,4 @@ pub mod Tied
 pub mod ShortWays
 pub mod CheapestSegments
 pub mod Spread
+mod Numbers

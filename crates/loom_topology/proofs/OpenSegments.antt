@@ -18,7 +18,7 @@ range_with_len-more a (suc n) =
     ∙ ap (λ m. (a ∷ range_with_len (a + 1) n) ++ m ∷ []) last
 
 -- two tests that agree at each of the numbers
-filter-range_same : (p q : ℕ → Bool) (a n : ℕ) → ((k : ℕ) → a ≤ k → k < a + n → p k ≡ q k) → filter p (range_with_len a n) ≡ filter q (range_with_len a n)
+pub filter-range_same : (p q : ℕ → Bool) (a n : ℕ) → ((k : ℕ) → a ≤ k → k < a + n → p k ≡ q k) → filter p (range_with_len a n) ≡ filter q (range_with_len a n)
 filter-range_same p q a zero same = refl
 filter-range_same p q a (suc n) same =
     let rest : filter p (range_with_len (a + 1) n) ≡ filter q (range_with_len (a + 1) n) =

@@ -1,5 +1,5 @@
 -- A least cost for one cavity is at most the dearest price for each node: a way over which it falls passes no node twice.
-use Rattle.std.proofs.Common.{ℕ, zero, suc, List, Option, Some, None, Bool, true, false, cond, ltb, min, length, slice_index, ◌≡◌, ◌⊎◌, ◌+◌, ◌-◌, ◌*◌, ◌^◌, ◌<◌, ◌≤◌, inl, inr, refl, sym, ap, ◌∙◌, subst, arith, pow_pos, unwrap_or}
+use Rattle.std.proofs.Common.{ℕ, zero, suc, List, Option, Some, None, cond, ltb, min, length, slice_index, ◌≡◌, ◌+◌, ◌-◌, ◌*◌, ◌^◌, ◌<◌, ◌≤◌, inl, inr, refl, sym, ap, ◌∙◌, subst, arith, pow_pos, unwrap_or}
 use Rattle.std.specs.List.{All}
 use Rattle.std.specs.Int.{bit_at}
 use Rattle.std.proofs.Math.Pow.{pow-lt}
@@ -8,10 +8,10 @@ use Rattle.std.proofs.lemmas.Bool.{cases_eq, cases_lt}
 use Rattle.std.proofs.lemmas.Bool.Decides.{nat_tests}
 use Rattle.std.proofs.lemmas.List.Elements.{All-get_or}
 use Rattle.std.proofs.lemmas.Nat.Bits.{bit_at_and, bit_at_above, bit_at-pow_same, bit_at-pow_other}
-use Rattle.loom_topology.specs.Topology.{TopologyView, IsSound, IsSoundSegment, Leads, no_segment, price_at, node_of}
+use Rattle.loom_topology.specs.Topology.{TopologyView, IsSound, IsSoundSegment, no_segment, price_at, node_of}
 use Rattle.loom_topology.specs.Legal.{IsLegal, IsMask, IsAtMost, plus}
 use Rattle.loom_topology.specs.Least.{HasLeastCosts}
-use Rattle.loom_topology.specs.Ties.{IsFirstPart, StepsTo}
+use Rattle.loom_topology.specs.Ties.{IsFirstPart}
 use Rattle.loom_topology.proofs.Leads.{below-from_Leads}
 use Rattle.loom_topology.proofs.LeastLegal.{least_costs_are_legal, leads_below}
 use Rattle.loom_topology.proofs.Tied.{some_rule_applies}

@@ -1,4 +1,4 @@
-use Rattle.std.specs.Prelude.{ℕ, List, [], ◌∷◌, ◌++◌, Bool, true, false, not, Option, Some, None, ◌≡◌, ◌≢◌, ◌⊎◌, ◌==◌, ◌<◌, ◌≤◌, ◌&&◌, ◌||◌, nat_eq, IsTrue, All, filter, length, map, slice_index, slice_index_or, if◌then◌else◌}
+use Rattle.std.specs.Prelude.{ℕ, List, [], ◌∷◌, ◌++◌, Bool, true, false, not, Option, Some, None, ◌≡◌, ◌≢◌, ◌⊎◌, ◌==◌, ◌<◌, ◌≤◌, ◌&&◌, ◌||◌, nat_eq, IsTrue, All, filter, length, map, slice_index, slice_index_or, slice_set, if◌then◌else◌}
 use Rattle.std.specs.List.{list_any, range_with_len}
 use Rattle.loom_topology.specs.declared.kind.Kind.{Kind}
 use Rattle.loom_topology.specs.declared.kind.Kind.TheVariants.{Run, Coupler}
@@ -25,6 +25,11 @@ pub record TopologyView : Type 0 where
 abbrev pub price_of : Kind → ℕ
 price_of (Run length) = length
 price_of (Coupler price pins) = price
+
+-- the kind with another price: a run of that length, a coupler at that price
+abbrev pub priced : ℕ → Kind → Kind
+priced price (Run length) = Run price
+priced price (Coupler before pins) = Coupler price pins
 
 abbrev pub is_coupler : Kind → Bool
 is_coupler (Run length) = false
@@ -119,6 +124,17 @@ open_segment from to kind = record { from = from; to = to; kind = kind; is_open 
 abbrev pub with_segment : TopologyView → ℕ → ℕ → Kind → TopologyView
 with_segment topology from to kind =
     record topology { segments = topology.segments ++ (open_segment from to kind) ∷ [] }
+
+-- with another price of segment s
+abbrev pub with_price : TopologyView → ℕ → ℕ → TopologyView
+with_price topology s price =
+    let g = segment_at topology s in
+    record topology { segments = slice_set topology.segments s (record g { kind = priced price g.kind }) }
+
+-- with another branch cost of node v
+abbrev pub with_branch : TopologyView → ℕ → ℕ → TopologyView
+with_branch topology v branch =
+    record topology { nodes = slice_set topology.nodes v (record (node_at topology v) { branch = branch }) }
 
 abbrev pub shut_if : Bool → Segment → Segment
 shut_if is_shut g = record g { is_open = not is_shut }

@@ -1,5 +1,5 @@
 ghost use Rattle.std.specs.Prelude.{◌≡◌, ◌≤◌};
-ghost use Rattle.loom_topology.specs.Topology.{price_of, is_coupler};
+ghost use Rattle.loom_topology.specs.Topology.{price_of, priced, is_coupler};
 
 use loom_base::{Pins, Price};
 
@@ -21,6 +21,18 @@ impl Kind {
         match self {
             Kind::Run { length } => length.get(),
             Kind::Coupler { price, .. } => price.get(),
+        }
+    }
+
+    /// The same kind with another price: a run of that length, a coupler at that price.
+    pub fn priced(&self, price: Price) -> Kind
+        ensures value { result ≡ priced price self.now }
+        ensures range { (1 ≤ price) × (price ≤ 1000000) }
+    {
+        let _in_range = price.get();
+        match *self {
+            Kind::Run { .. } => Kind::Run { length: price },
+            Kind::Coupler { pins, .. } => Kind::Coupler { price, pins },
         }
     }
 

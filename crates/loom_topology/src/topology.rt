@@ -2,7 +2,7 @@ ghost use Rattle.std.specs.Prelude.{ℕ, ◌↔◌, ◌≡◌, ◌<◌, ◌≤�
 ghost use Rattle.std.specs.List.{Contains};
 ghost use Rattle.std.specs.List.Sorted.{IsStrictlyIncreasing};
 ghost use Rattle.std.specs.Option.{option_map};
-ghost use Rattle.loom_topology.specs.Topology.{IsSound, no_topology, with_node, with_cavity, with_segment, open_segment, shut_in, shut_among, IsSoundSegment, KeepsBorder, harness_at, branch_at, segment_at, price_at, node_of, open_at, other_end_at};
+ghost use Rattle.loom_topology.specs.Topology.{IsSound, no_topology, with_node, with_cavity, with_segment, with_price, with_branch, open_segment, shut_in, shut_among, IsSoundSegment, KeepsBorder, harness_at, branch_at, segment_at, price_at, node_of, open_at, other_end_at};
 ghost use Rattle.loom_topology.specs.Reach.{IsReached};
 ghost use Rattle.loom_topology.specs.Ways.{MarksCheapest, way_from};
 ghost use Rattle.loom_topology.specs.TopologyFault.{Gives, IsDue, number_of_new};
@@ -12,7 +12,7 @@ use crate::incidence::Incidence;
 use crate::spreading::reached_from;
 use crate::ways::mark_cheapest;
 use crate::{Kind, TopologyFault, Way};
-use loom_base::{Branch, CavityNo, List, NoMemory, NodeNo, SegmentNo};
+use loom_base::{Branch, CavityNo, List, NoMemory, NodeNo, Price, SegmentNo};
 use std::alloc::Global;
 use std::marker::Model;
 
@@ -133,6 +133,23 @@ impl Topology {
         self.incidence.add_segment(from, to, number)?;
         self.links.push(Link::new(from, to, kind))?;
         Ok(number)
+    }
+
+    /// Gives a segment another price: a run's length, a coupler's price. It takes no memory.
+    pub fn set_price(&mut self, segment: SegmentNo, price: Price)
+        requires { segment.0 < length self.old.segments }
+        ensures { self.new ≡ with_price self.old segment.0 price }
+    {
+        let kind = self.links[segment.0 as usize].kind;
+        self.links[segment.0 as usize].kind = kind.priced(price);
+    }
+
+    /// Gives a node another branch cost. It takes no memory.
+    pub fn set_branch(&mut self, node: NodeNo, branch: Branch)
+        requires { node.0 < length self.old.nodes }
+        ensures { self.new ≡ with_branch self.old node.0 branch }
+    {
+        self.nodes[node.0 as usize].branch = branch.get();
     }
 
     pub fn node_count(&self) -> u32
@@ -378,7 +395,7 @@ fn incidence_of(alloc: Global, node_count: usize, links: &[Link]) -> Result<Inci
 #[cfg(test)]
 mod tests {
     use super::*;
-    use loom_base::{Pins, Price};
+    use loom_base::Pins;
     use std::test::Fail;
 
     /// A node of harness 0, and one of harness 1.
