@@ -3,6 +3,7 @@ pub mod ClassLemmas
 pub mod FormulaLemmas
 pub mod NameLemmas
 pub mod NetLemmas
+pub mod NumberLemmas
 pub mod PartsLemmas
 pub mod SegmentLemmas
 pub mod SoundLemmas

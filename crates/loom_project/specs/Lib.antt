@@ -2,4 +2,5 @@ pub mod Draft
 pub mod Sound
 pub mod Project
 pub mod Classes
+pub mod Numbers
 pub mod ProjectInside

@@ -10,6 +10,7 @@ mod fault;
 mod formulas;
 mod nets;
 mod nodes;
+mod numbers;
 mod options;
 mod project;
 mod require;
@@ -17,4 +18,5 @@ mod segments;
 
 pub use draft::{CavityDraft, Draft, NetDraft, NodeDraft, SegmentDraft, TerminalDraft};
 pub use fault::{Of, ProjectFault};
+pub use numbers::NumberChange;
 pub use project::Project;

@@ -5,6 +5,7 @@ ghost use Rattle.loom_topology.specs.Topology.{segment_at};
 ghost use Rattle.loom_project.specs.Classes.{net_classes};
 ghost use Rattle.loom_project.specs.Draft.{cavity_names, index_of};
 ghost use Rattle.loom_project.specs.Project.{topology_of, net_places, net_at, cavities_of, when_at, reserved_of, bars_of, net_topology, HasSoundTopologies, IsWithinLimits};
+ghost use Rattle.loom_project.specs.Numbers.{with_price, with_branch, with_number, IsThere};
 ghost use Rattle.loom_project.specs.Sound.{draft_check, Gives};
 
 use crate::barred::{barred_segments, is_among};
@@ -13,10 +14,11 @@ use crate::classes::Classes;
 use crate::formulas::checked_rules;
 use crate::nets::checked_nets;
 use crate::nodes::{Nodes, checked_nodes};
+use crate::numbers::{set_branch, set_price};
 use crate::options::checked_options;
 use crate::segments::add_segments;
-use crate::{Draft, ProjectFault};
-use loom_base::{CavityNo, List, Name, NetNo, NoMemory, SegmentNo};
+use crate::{Draft, NumberChange, ProjectFault};
+use loom_base::{Branch, CavityNo, List, Name, NetNo, NoMemory, NodeNo, Price, SegmentNo};
 use loom_formula::{Formula, Options};
 use loom_topology::Topology;
 use std::alloc::Global;
@@ -122,6 +124,38 @@ impl Project {
         let project = Project::check(self.alloc, draft)?;
         *self = project;
         Ok(())
+    }
+
+    /// Sets a number. No rule of the check looks at it, so nothing is checked anew. It takes no
+    /// memory.
+    pub fn set_number(&mut self, change: NumberChange)
+        requires { IsThere self.old change }
+        ensures value { self.new ≡ with_number self.old change }
+        ensures sound { draft_check self.new ≡ Ok tt }
+    {
+        match change {
+            NumberChange::Price { segment, price } => self.set_price(segment, price),
+            NumberChange::Branch { node, branch } => self.set_branch(node, branch),
+        }
+    }
+
+    fn set_price(&mut self, segment: SegmentNo, price: Price)
+        requires { segment.0 < length self.old.segments }
+        ensures value { self.new ≡ with_price self.old segment.0 price }
+        ensures sound { draft_check self.new ≡ Ok tt }
+    {
+        let at = segment.0 as usize;
+        set_price(self.alloc, &mut self.draft.segments, at, price);
+        self.topology.set_price(segment, price);
+    }
+
+    fn set_branch(&mut self, node: NodeNo, branch: Branch)
+        requires { node.0 < length self.old.nodes }
+        ensures value { self.new ≡ with_branch self.old node.0 branch }
+        ensures sound { draft_check self.new ≡ Ok tt }
+    {
+        set_branch(&mut self.draft.nodes, node.0 as usize, branch);
+        self.topology.set_branch(node, branch);
     }
 
     /// The draft, which is sound, and its lists within their limits.
