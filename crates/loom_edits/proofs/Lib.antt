@@ -1,3 +1,4 @@
 pub mod ElementLemmas
 pub mod UseLemmas
 pub mod CauseLemmas
+pub mod NumberLemmas

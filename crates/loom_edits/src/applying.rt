@@ -4,6 +4,7 @@ ghost use Rattle.loom_edits.specs.Edits.{changed as changed_of, if_sound, edited
 
 use crate::nets::change_nets;
 use crate::nodes::change_places;
+use crate::numbers::number_set;
 use crate::options::change_options;
 use crate::part::Part;
 use crate::segments::{change_new_segments, change_segments};
@@ -49,7 +50,8 @@ pub fn edited(alloc: Global, project: &Project, edit: &Edit) -> Result<Project, 
 }
 
 /// Changes the project as an edit says, or answers the first cause why it is refused (`edited`).
-/// After every refusal the project is unchanged.
+/// After every refusal the project is unchanged. A length, a price and a branch cost are set in
+/// place; after another edit the whole project is checked anew.
 pub fn apply(alloc: Global, project: &mut Project, edit: &Edit) -> Result<(), EditFault>
     ensures applied { OnOk result (edited_of project.old edit.now ≡ Ok project.new) }
     ensures refused { OnErr result (project.new ≡ project.old) }
@@ -57,6 +59,10 @@ pub fn apply(alloc: Global, project: &mut Project, edit: &Edit) -> Result<(), Ed
         → edited_of project.old edit.now ≡ Err fault) }
     ensures memory { result ≢ Err (EditFault.Project failures.NoMemory) }
 {
+    if let Some(change) = number_set(project, edit)? {
+        project.set_number(change);
+        return Ok(());
+    }
     *project = edited(alloc, project, edit)?;
     Ok(())
 }

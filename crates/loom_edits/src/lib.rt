@@ -8,6 +8,7 @@ mod elements;
 mod fault;
 mod nets;
 mod nodes;
+mod numbers;
 mod options;
 mod part;
 mod places;
@@ -22,6 +23,7 @@ pub use elements::{
     with_terminal, with_when, without_terminal,
 };
 pub use fault::EditFault;
+pub use numbers::number_set;
 
 #[cfg(test)]
 mod tests;

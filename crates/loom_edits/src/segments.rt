@@ -79,7 +79,7 @@ fn is_coupler_at(draft: &Draft, at: usize) -> bool
 }
 
 /// Refuses a coupler.
-fn on_run(draft: &Draft, segment: Name, at: usize) -> Result<(), EditFault>
+pub fn on_run(draft: &Draft, segment: Name, at: usize) -> Result<(), EditFault>
     ensures { result ≡ on_run_at draft.now segment at }
 {
     if is_coupler_at(draft, at) {
@@ -90,7 +90,7 @@ fn on_run(draft: &Draft, segment: Name, at: usize) -> Result<(), EditFault>
 }
 
 /// Refuses a run.
-fn on_coupler(draft: &Draft, segment: Name, at: usize) -> Result<(), EditFault>
+pub fn on_coupler(draft: &Draft, segment: Name, at: usize) -> Result<(), EditFault>
     ensures { result ≡ on_coupler_at draft.now segment at }
 {
     if is_coupler_at(draft, at) {

@@ -1,4 +1,5 @@
 pub mod Moves
+pub mod NumbersBack
 pub mod TakenBack
 mod TerminalLemmas
 pub mod Walks

@@ -1,3 +1,4 @@
 pub mod Inverse
 pub mod Changes
 pub mod HistoryInside
+pub mod Numbers

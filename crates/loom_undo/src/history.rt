@@ -2,13 +2,14 @@ ghost use Rattle.std.specs.Prelude.{◌≡◌, ◌≢◌, [], Some, None, Ok, Er
 ghost use Rattle.std.specs.Option.{option_copied};
 ghost use Rattle.loom_project.specs.declared.fault.ProjectFault.TheVariants as failures;
 ghost use Rattle.loom_edits.specs.declared.fault.EditFault.TheVariants as faults;
+ghost use Rattle.loom_edits.specs.Numbers.{SetsNumber};
 ghost use Rattle.loom_undo.specs.Changes.{after_edit, after_undo, after_redo, newest_inverse, last_of, TakesBack, MakesAgain};
 
-use crate::steps::{keep, project_after, project_before, step_of};
+use crate::steps::{keep, make_again, step_of, take_back};
 use crate::{Inverse, UndoStop};
-use loom_base::List;
-use loom_edits::{Edit, EditFault, edited};
-use loom_project::Project;
+use loom_base::{List, NoMemory};
+use loom_edits::{Edit, EditFault, edited, number_set};
+use loom_project::{NumberChange, Project};
 use std::alloc::Global;
 use std::marker::Model;
 
@@ -74,6 +75,37 @@ impl History {
             → after_edit self.old edit.now ≡ Err fault) }
         ensures memory { result ≢ Err (EditFault.Project failures.NoMemory) }
     {
+        match number_set(&self.project, edit) {
+            Ok(Some(change)) => {
+                self.set_number(edit, change)?;
+                Ok(())
+            }
+            Ok(None) => self.edit_anew(edit),
+            Err(fault) => Err(fault),
+        }
+    }
+
+    /// Sets the number that is all that an edit changes.
+    fn set_number(&mut self, edit: &Edit, change: NumberChange) -> Result<(), NoMemory>
+        requires { SetsNumber self.old.draft edit.now change }
+        ensures applied { OnOk result (after_edit self.old edit.now ≡ Ok self.new) }
+        ensures refused { OnErr result (self.new ≡ self.old) }
+    {
+        let setting = step_of(self.alloc, &self.project, edit)?;
+        keep(&mut self.kept, self.standing, setting)?;
+        self.standing = self.kept.len();
+        self.project.set_number(change);
+        Ok(())
+    }
+
+    /// Changes the project by way of another one, which is checked.
+    fn edit_anew(&mut self, edit: &Edit) -> Result<(), EditFault>
+        ensures applied { OnOk result (after_edit self.old edit.now ≡ Ok self.new) }
+        ensures refused { OnErr result (self.new ≡ self.old) }
+        ensures cause { IfErr result (λ fault. fault ≢ faults.NoMemory
+            → after_edit self.old edit.now ≡ Err fault) }
+        ensures memory { result ≢ Err (EditFault.Project failures.NoMemory) }
+    {
         let project = edited(self.alloc, &self.project, edit)?;
         let step = step_of(self.alloc, &self.project, edit)?;
         keep(&mut self.kept, self.standing, step)?;
@@ -93,9 +125,8 @@ impl History {
             return Err(UndoStop::Nothing);
         };
         let step = &self.kept.as_slice()[standing];
-        let project = project_before(self.alloc, &self.project, &step.inverse)?;
+        take_back(self.alloc, &mut self.project, &step.inverse)?;
         self.standing = standing;
-        self.project = project;
         Ok(())
     }
 
@@ -111,9 +142,8 @@ impl History {
             return Err(UndoStop::Nothing);
         }
         let step = &self.kept.as_slice()[standing];
-        let project = project_after(self.alloc, &self.project, &step.edit)?;
+        make_again(self.alloc, &mut self.project, &step.edit)?;
         self.standing = standing + 1;
-        self.project = project;
         Ok(())
     }
 

@@ -7,6 +7,7 @@ mod history;
 mod inverse;
 mod lists;
 mod nets;
+mod numbers;
 mod old_values;
 mod places;
 mod removals;

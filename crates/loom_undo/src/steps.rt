@@ -6,9 +6,10 @@ ghost use Rattle.loom_undo.specs.Inverse.{inverse_of, taken_back};
 use crate::Inverse;
 use crate::finding::found_inverse;
 use crate::history::Kept;
+use crate::numbers::number_set_back;
 use crate::taking_back::made_back;
 use loom_base::{List, NoMemory};
-use loom_edits::{Edit, EditFault, edited};
+use loom_edits::{Edit, EditFault, apply};
 use loom_project::{Project, ProjectFault};
 use std::alloc::Global;
 
@@ -42,30 +43,33 @@ pub fn keep(kept: &mut List<Kept>, standing: usize, step: Kept) -> Result<(), No
     Ok(())
 }
 
-/// The sound project that the inverse makes of a project.
-pub fn project_before(
-    alloc: Global,
-    project: &Project,
-    inverse: &Inverse,
-) -> Result<Project, NoMemory>
-    requires { draft_check (taken_back inverse.now project.now) ≡ Ok tt }
-    ensures { IfOk result (λ before. before ≡ taken_back inverse.now project.now) }
+/// Takes an edit back by its inverse, which makes a sound project. After want of memory the project
+/// is unchanged.
+pub fn take_back(alloc: Global, project: &mut Project, inverse: &Inverse) -> Result<(), NoMemory>
+    requires { draft_check (taken_back inverse.now project.old) ≡ Ok tt }
+    ensures taken { OnOk result (project.new ≡ taken_back inverse.now project.old) }
+    ensures refused { OnErr result (project.new ≡ project.old) }
 {
+    if let Some(change) = number_set_back(project.draft(), inverse) {
+        project.set_number(change);
+        return Ok(());
+    }
     let draft = made_back(alloc, inverse, project.draft().copy(alloc)?)?;
-    match Project::check(alloc, draft) {
-        Ok(before) => Ok(before),
+    match project.replace(draft) {
+        Ok(()) => Ok(()),
         Err(ProjectFault::NoMemory) => Err(NoMemory),
         Err(_) => unreachable!(),
     }
 }
 
-/// The project after an edit that it allows.
-pub fn project_after(alloc: Global, project: &Project, edit: &Edit) -> Result<Project, NoMemory>
-    requires { IsOk (edited_of project.now edit.now) }
-    ensures { IfOk result (λ after. edited_of project.now edit.now ≡ Ok after) }
+/// Makes an edit that the project allows. After want of memory the project is unchanged.
+pub fn make_again(alloc: Global, project: &mut Project, edit: &Edit) -> Result<(), NoMemory>
+    requires { IsOk (edited_of project.old edit.now) }
+    ensures made { OnOk result (edited_of project.old edit.now ≡ Ok project.new) }
+    ensures refused { OnErr result (project.new ≡ project.old) }
 {
-    match edited(alloc, project, edit) {
-        Ok(after) => Ok(after),
+    match apply(alloc, project, edit) {
+        Ok(()) => Ok(()),
         Err(EditFault::NoMemory) => Err(NoMemory),
         Err(_) => unreachable!(),
     }
