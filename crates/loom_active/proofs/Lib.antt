@@ -18,3 +18,5 @@ pub mod TreeEnds
 pub mod TreesJoin
 pub mod NeedMasks
 pub mod PlanJoins
+pub mod Openings
+pub mod OpenTrees

@@ -9,8 +9,6 @@ pub mod LiveUsers
 pub mod LowerLaws
 pub mod NetCosts
 pub mod Once
-pub mod OpenTrees
-pub mod Openings
 pub mod PinsKept
 pub mod PlanExcludesStops
 pub mod PlanIs

@@ -19,7 +19,7 @@ use Rattle.loom_active.specs.RightPlan.{live_wires, EndsLiveAtPin, UsesPin, Keep
 use Rattle.loom_active.specs.SetWires.{PinsKeepToNets}
 use Rattle.loom_plan.specs.PlanOf.{IsPlanOf}
 use Rattle.loom_plan.proofs.LowerLaws.{LowerLaws}
-use Rattle.loom_plan.proofs.Openings.{net_differs, coupler-same}
+use Rattle.loom_active.proofs.Openings.{net_differs, coupler-same}
 use Rattle.loom_plan.proofs.PrintedPins.{pin_is, apart, prints_pins, gives_pin}
 use Rattle.loom_plan.proofs.SetsWires.{own_wires, printed_wire, live_wire_set, set_wire_live, laid_out, own_routed}
 

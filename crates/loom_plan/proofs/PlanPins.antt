@@ -15,7 +15,7 @@ use Rattle.loom_rows.specs.Table.{Table}
 use Rattle.loom_types.specs.declared.plan.Plan.{Plan}
 use Rattle.loom_types.specs.declared.plan.PinLine.{PinLine}
 use Rattle.loom_types.specs.declared.plan.SetLine.{SetLine}
-use Rattle.loom_types.specs.Slots.{Slot, has_slot, IsSlotOf, slot_of}
+use Rattle.loom_types.specs.Slots.{Slot, has_slot, IsSlotOf, slot_of, IsSlotBefore}
 use Rattle.loom_active.specs.LiveSets.{IsLiveUnder}
 use Rattle.loom_active.specs.Usages.{IsUsed}
 use Rattle.loom_active.specs.RightPlan.{pins_at}
@@ -24,7 +24,7 @@ use Rattle.loom_pins.specs.declared.slot.Slot.{Slot as PinSlot}
 use Rattle.loom_pins.specs.declared.slot.CouplerPins.{CouplerPins}
 use Rattle.loom_pins.specs.FirstFit.{IsTaken, IsFirstFit, ArePins}
 use Rattle.loom_wires.specs.declared.cut_wire.CutWire.{CutWire}
-use Rattle.loom_plan.specs.Pins.{IsSlotBefore, IsTakenPin, IsFittedPin, ArePlanPins}
+use Rattle.loom_plan.specs.Pins.{IsTakenPin, IsFittedPin, ArePlanPins}
 use Rattle.loom_plan.specs.Work.{line_of, slot_at, couplers_of, pin_line, pin_lines, AreSlots, AreUsages}
 use Rattle.loom_plan.specs.Stages.{HasLaid, HasCut, Prints, set_line}
 use Rattle.loom_plan.proofs.LaidLive.{live-under, under-live}

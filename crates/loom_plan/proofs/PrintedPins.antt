@@ -13,15 +13,15 @@ use Rattle.loom_types.specs.declared.plan.Plan.{Plan}
 use Rattle.loom_types.specs.declared.plan.PinLine.{PinLine}
 use Rattle.loom_types.specs.declared.plan.SetLine.{SetLine}
 use Rattle.loom_types.specs.PinLines.{is_line_of, pin_in}
-use Rattle.loom_types.specs.Slots.{Slot, slot_of, steps_over, has_slot, IsSlotOf}
+use Rattle.loom_types.specs.Slots.{Slot, slot_of, steps_over, has_slot, IsSlotOf, IsSlotBefore}
 use Rattle.loom_types.specs.LayoutWires.{KeepsOwnPins}
 use Rattle.loom_active.specs.LiveSets.{IsLiveUnder, PrintsLiveSets}
 use Rattle.loom_active.specs.Usages.{IsUsed}
 use Rattle.loom_active.specs.RightPlan.{lines_of, PrintsPins}
 use Rattle.loom_active.proofs.Pairs.{pairs-none, pairs-cons, pairs-head, pairs-tail}
-use Rattle.loom_plan.specs.Pins.{IsSlotBefore, ArePlanPins}
+use Rattle.loom_plan.specs.Pins.{ArePlanPins}
 use Rattle.loom_plan.proofs.Once.{AreRivals, count-once, pairs-from_members}
-use Rattle.loom_plan.proofs.Openings.{net_differs, coupler-same}
+use Rattle.loom_active.proofs.Openings.{net_differs, coupler-same}
 
 not_before : (a b : Slot) → IsSlotBefore a b → a.net ≡ b.net → a.coupler ≡ b.coupler → a.ordinal ≡ b.ordinal → ⊥
 not_before a b (inl less) net coupler ordinal = absurd (omega (arith, less, net))

@@ -12,14 +12,13 @@ use Rattle.loom_types.specs.declared.plan.SetLine.{SetLine}
 use Rattle.loom_types.specs.declared.wire.Wire.{Wire}
 use Rattle.loom_types.specs.Laws.{set_wires}
 use Rattle.loom_types.specs.PinLines.{pin_in}
-use Rattle.loom_types.specs.Slots.{Slot, IsSlotOf, has_slot}
+use Rattle.loom_types.specs.Slots.{Slot, IsSlotOf, has_slot, IsSlotBefore}
 use Rattle.loom_types.specs.WireOrder.{IsWireBefore}
 use Rattle.loom_active.specs.Needs.{is_valid_for}
 use Rattle.loom_active.specs.LiveSets.{need_mask}
 use Rattle.loom_laid.specs.declared.laid_set.LaidSet.{LaidSet}
 use Rattle.loom_laid.specs.LaidSets.{steps_of}
 use Rattle.loom_wires.specs.Wires.{is_same_wire}
-use Rattle.loom_plan.specs.Pins.{IsSlotBefore}
 use Rattle.loom_plan.specs.Work.{line_of, AreSlots, users_of_slot, usages_worked, wires_of_layout, AreWiresOf, users_of_wire, wires_worked}
 use Rattle.loom_plan.proofs.StrictOrders.{same-members, slots_once, wires_once}
 

@@ -26,7 +26,7 @@ use Rattle.loom_plan.proofs.LowerLaws.{LowerLaws}
 use Rattle.loom_plan.proofs.Reorder.{Reordered, map-reordered, reordered-from_members, different-from_map}
 use Rattle.loom_plan.proofs.TreeReorder.{different-no_cycle, tree-reordered}
 use Rattle.loom_plan.proofs.CostReorder.{cost-reordered, cost-bare}
-use Rattle.loom_plan.proofs.Openings.{net_differs, set_wires-same}
+use Rattle.loom_active.proofs.Openings.{net_differs, set_wires-same}
 use Rattle.loom_plan.proofs.PrintedSets.{net_within, stem_and_rest, set_different, set_in_range, set_laid, set_costs}
 use Rattle.loom_plan.proofs.Once.{any-member, member-any, same-member}
 use Rattle.loom_plan.proofs.PrintedPins.{own_pins}

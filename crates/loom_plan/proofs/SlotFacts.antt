@@ -22,11 +22,10 @@ use Rattle.loom_rows.specs.Leftovers.{AreSame}
 use Rattle.loom_rows.specs.Printing.{AreHad}
 use Rattle.loom_rows.specs.Table.{Table, Has}
 use Rattle.loom_rows.proofs.Conditions.{same}
-use Rattle.loom_types.specs.Slots.{Slot, IsSlotOf, has_slot}
+use Rattle.loom_types.specs.Slots.{Slot, IsSlotOf, has_slot, IsSlotBefore}
 use Rattle.loom_laid.specs.declared.laid_set.LaidSet.{LaidSet}
 use Rattle.loom_laid.specs.LaidSets.{steps_of}
 use Rattle.loom_pins.specs.declared.slot.Slot.{Slot as PinSlot}
-use Rattle.loom_plan.specs.Pins.{IsSlotBefore}
 use Rattle.loom_plan.specs.Work.{line_of, AreSlots, set_live, users_of_slot, usages_worked, slot_at, AreUsages}
 use Rattle.loom_plan.specs.SlotUsers.{Key, slot_of_key, key_cmp, Users, crosses, conds_of, unless_empty, AreUsers, usage_worked, AreJoined}
 use Rattle.loom_plan.proofs.SlotKeys.{key_total, key-same, key-before}

@@ -6,8 +6,8 @@ use Rattle.std.specs.Ordering.{is_eq, nat_cmp, ordering_then}
 use Rattle.std.specs.Cmp.{IsTotalOrder, then_total, on_total, nat_cmp_total}
 use Rattle.std.proofs.lemmas.Cmp.{ranked, tied_itself}
 use Rattle.std.proofs.lemmas.Map.Lookups.{exact_unsigned}
-use Rattle.loom_plan.specs.Pins.{IsSlotBefore}
 use Rattle.loom_plan.specs.SlotUsers.{Key, slot_of_key, key_cmp}
+use Rattle.loom_types.specs.Slots.{IsSlotBefore}
 
 pub key_total : IsTotalOrder key_cmp
 key_total = then_total (then_total (on_total (λ (k : Key). k.0) nat_cmp_total) (on_total (λ (k : Key). k.1) nat_cmp_total)) (on_total (λ (k : Key). k.2) nat_cmp_total)

@@ -13,11 +13,10 @@ use Rattle.loom_types.specs.declared.plan.SetLine.{SetLine}
 use Rattle.loom_types.specs.declared.wire.End.{End}
 use Rattle.loom_types.specs.declared.wire.End.TheVariants.{Cavity, Splice, Pin}
 use Rattle.loom_types.specs.declared.wire.Wire.{Wire}
-use Rattle.loom_types.specs.Slots.{Slot}
+use Rattle.loom_types.specs.Slots.{Slot, IsSlotBefore}
 use Rattle.loom_types.specs.WireOrder.{end_cmp, route_cmp, wire_cmp, IsWireBefore}
 use Rattle.loom_active.specs.LiveSets.{IsListedBefore, IsSetBefore}
 use Rattle.loom_active.proofs.Pairs.{pairs-none, pairs-cons, pairs-head, pairs-tail}
-use Rattle.loom_plan.specs.Pins.{IsSlotBefore}
 
 none_listed : {X : Type 0} (x : X) → Contains [] x → ⊥
 none_listed x listed = absurd (omega (arith, listed.1))

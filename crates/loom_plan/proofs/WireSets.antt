@@ -37,9 +37,9 @@ use Rattle.loom_wires.specs.declared.laid_set.LaidSet.{LaidSet as WireSet}
 use Rattle.loom_wires.specs.Wires.{numbers_of, first_of, others_of, IsLaid as IsLaidForWires, wires_of_set, is_same_wire, has_wire, users_of, wires_worked as worked_for_sets, AreWires, bare_of}
 use Rattle.loom_plan.specs.Work.{set_live, wires_of_layout, users_of_wire, wires_worked, AreWiresOf}
 use Rattle.loom_plan.specs.Stages.{HasLaid, wired_of, cavity_no}
-use Rattle.loom_plan.proofs.Openings.{net_differs}
+use Rattle.loom_active.proofs.Openings.{net_differs}
 use Rattle.loom_plan.proofs.PrintedSets.{stem_and_rest, set_in_range}
-use Rattle.loom_plan.proofs.OpenTrees.{open-within, laid_out-in_project}
+use Rattle.loom_active.proofs.OpenTrees.{open-within, laid_out-in_project}
 use Rattle.loom_plan.proofs.Zipped.{All-members}
 
 numbers-back : (cs : List ℕ) → map (λ (c : CavityNo). c.0) (map cavity_no cs) ≡ cs

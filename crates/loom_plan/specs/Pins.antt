@@ -1,17 +1,11 @@
-use Rattle.std.specs.Prelude.{ℕ, Bool, Some, ◌≡◌, ◌<◌, ◌≤◌, ◌⊎◌, map, AllPairs, Contains, slice_get}
+use Rattle.std.specs.Prelude.{ℕ, Bool, Some, ◌≡◌, ◌<◌, ◌≤◌, map, AllPairs, Contains, slice_get}
 use Rattle.loom_project.specs.declared.draft.Draft.{Draft}
 use Rattle.loom_project.specs.Project.{topology_of}
 use Rattle.loom_types.specs.declared.plan.Plan.{Plan}
 use Rattle.loom_types.specs.declared.plan.PinLine.{PinLine}
-use Rattle.loom_types.specs.Slots.{Slot, IsSlotOf, slot_of}
+use Rattle.loom_types.specs.Slots.{Slot, IsSlotOf, IsSlotBefore, slot_of}
 use Rattle.loom_active.specs.RightPlan.{IsFreePin}
 use Rattle.loom_active.specs.Usages.{IsUsed}
-
--- slots are ordered by net, then coupler, then ordinal
-abbrev pub IsSlotBefore : Slot → Slot → Type 0
-IsSlotBefore one other =
-    (one.net < other.net)
-    ⊎ ((one.net ≡ other.net) × ((one.coupler < other.coupler) ⊎ ((one.coupler ≡ other.coupler) × (one.ordinal < other.ordinal))))
 
 -- a pin is taken for the slot of a line: an earlier line gives it to a slot of the same coupler, and some choice makes both used
 pub record IsTakenPin (draft : Draft) (plan : Plan) (at : ℕ) (line : PinLine) (pin : ℕ) : Type 0 where

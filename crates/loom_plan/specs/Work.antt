@@ -11,7 +11,7 @@ use Rattle.loom_types.specs.declared.plan.SetLine.{SetLine}
 use Rattle.loom_types.specs.declared.wire.Wire.{Wire}
 use Rattle.loom_types.specs.Laws.{set_wires}
 use Rattle.loom_types.specs.PinLines.{pin_in}
-use Rattle.loom_types.specs.Slots.{Slot, IsSlotOf, has_slot}
+use Rattle.loom_types.specs.Slots.{Slot, IsSlotOf, has_slot, IsSlotBefore}
 use Rattle.loom_types.specs.WireOrder.{IsWireBefore}
 use Rattle.loom_active.specs.Needs.{is_valid_for}
 use Rattle.loom_active.specs.LiveSets.{need_mask}
@@ -19,7 +19,6 @@ use Rattle.loom_laid.specs.declared.laid_set.LaidSet.{LaidSet}
 use Rattle.loom_pins.specs.declared.slot.Slot.{Slot as PinSlot}
 use Rattle.loom_pins.specs.declared.slot.CouplerPins.{CouplerPins}
 use Rattle.loom_wires.specs.Wires.{is_same_wire}
-use Rattle.loom_plan.specs.Pins.{IsSlotBefore}
 
 -- a laid set as it is printed, but for its row
 abbrev pub line_of : LaidSet → SetLine

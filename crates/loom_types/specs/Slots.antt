@@ -1,4 +1,4 @@
-use Rattle.std.specs.Prelude.{ℕ, List, Bool, ◌≡◌, ◌⊎◌, ◌==◌, ◌&&◌, nat_le, IsTrue, Contains, count_by}
+use Rattle.std.specs.Prelude.{ℕ, List, Bool, ◌≡◌, ◌<◌, ◌⊎◌, ◌==◌, ◌&&◌, nat_le, IsTrue, Contains, count_by}
 use Rattle.loom_topology.specs.Topology.{TopologyView, segment_at, is_coupler}
 use Rattle.loom_types.specs.declared.layout.Layout.{Layout}
 use Rattle.loom_types.specs.declared.plan.SetLine.{SetLine}
@@ -25,6 +25,12 @@ abbrev pub IsSlotOf : TopologyView → List SetLine → Slot → Type 0
 IsSlotOf topology sets slot =
     IsTrue (is_coupler (segment_at topology slot.coupler).kind)
     × ((set : SetLine) × Contains sets set × IsTrue (has_slot set slot))
+
+-- slots are ordered by net, then coupler, then ordinal
+abbrev pub IsSlotBefore : Slot → Slot → Type 0
+IsSlotBefore one other =
+    (one.net < other.net)
+    ⊎ ((one.net ≡ other.net) × ((one.coupler < other.coupler) ⊎ ((one.coupler ≡ other.coupler) × (one.ordinal < other.ordinal))))
 
 -- the slot whose pin a line gives
 abbrev pub slot_of : PinLine → Slot

@@ -15,7 +15,7 @@ use Rattle.loom_types.specs.LayoutTree.{IsLaidOut, tree_of}
 use Rattle.loom_types.specs.declared.layout.Layout.{Layout}
 use Rattle.loom_types.specs.SetMask.{rest_of, stem_cavity, stem_node}
 use Rattle.loom_topology.specs.Legal.{cavities_of_mask}
-use Rattle.loom_plan.proofs.Openings.{DifferInOpen, net_differs}
+use Rattle.loom_active.proofs.Openings.{DifferInOpen, net_differs}
 
 AllZip-weaker : {A B : Type 0} (R S : A → B → Type 0) → ((a : A) (b : B) → R a b → S a b) → (xs : List A) (ys : List B) → AllZip R xs ys → AllZip S xs ys
 AllZip-weaker R S weaker [] [] z = tt
