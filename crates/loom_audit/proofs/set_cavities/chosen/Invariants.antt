@@ -1,0 +1,9 @@
+use Rattle.std.proofs.Common.{◌≡◌, ◌++◌, map, drop}
+use Rattle.loom_base.specs.declared.positions.CavityNo.{CavityNo}
+use Rattle.loom_topology.specs.Legal.{chosen}
+use Rattle.loom_audit.proofs.set_cavities.chosen.Given as goal
+
+abbrev pub invariant-loop-cavity : goal.invariant-loop-cavity
+invariant-loop-cavity l =
+    chosen (map (λ (c : CavityNo). c.0) l.cavities) l.mask
+    ≡ map (λ (c : CavityNo). c.0) l.some ++ chosen (map (λ (c : CavityNo). c.0) (drop l.cavity-index l.cavities)) l.rest
