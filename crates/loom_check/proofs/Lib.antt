@@ -1,0 +1,12 @@
+pub mod OnceListed
+pub mod AgreeingLines
+pub mod LiveSetsPrinted
+pub mod WiresOfLiveSets
+pub mod OpenRoutes
+pub mod SidesOfPins
+pub mod LowerLaws
+pub mod SetsOfNeeds
+pub mod LeastByTables
+pub mod PinLinesOfSlots
+pub mod PinsOfLayouts
+pub mod PassingPlans
