@@ -1,0 +1,16 @@
+pub mod ListFacts
+pub mod Refusals
+pub mod NoStops
+pub mod RowWalks
+pub mod RowsOfPlan
+pub mod LiveSetsOfPlan
+pub mod WiresOfPlan
+pub mod SimpleRules
+pub mod TablesOfPlan
+pub mod LayoutsOfPlan
+pub mod TwinSets
+pub mod TwinPins
+pub mod TwinWires
+pub mod SetsOfWires
+pub mod RowsNeeded
+pub mod PlansThatPass
