@@ -30,19 +30,19 @@ use Rattle.loom_answer.specs.declared.named_stop.NamedStop.{NamedStop}
 use Rattle.loom_plan.specs.FirstStop.{FirstStop}
 use Rattle.loom_plan.specs.StopsLaw.{PlanExcludesStops}
 use Rattle.loom_extract.specs.Variant.{first_false}
+use Rattle.loom_top.specs.Entries.{project_after}
 use Rattle.loom_top.specs.Refusals.{refusal_shown}
-use Rattle.loom_top.specs.Jobs.{want_of, AskFor, Obeys, IsRefused, HasAnswer}
+use Rattle.loom_top.specs.Jobs.{want_of, Obeys, IsRefused, HasAnswer}
 use Rattle.loom_top.specs.Replies.{Accepts, Refuses, IsReply}
 use Rattle.loom_top.specs.RepliesInside.{IsReplyTo}
-use Rattle.loom_top.specs.declared.job.Job.{Job}
-use Rattle.loom_top.specs.declared.job.Job.TheVariants as jobs
+use Rattle.loom_top.specs.declared.job.DocumentJob.{DocumentJob}
+use Rattle.loom_top.specs.declared.job.DocumentJob.TheVariants as jobs
 use Rattle.loom_top.specs.declared.reply.Reply.{Reply}
+use Rattle.loom_top.specs.declared.reply.ReplyKind.{ReplyKind}
+use Rattle.loom_top.specs.declared.reply.ReplyKind.TheVariants as kinds
 use Rattle.loom_top.specs.declared.refusal.Refusal.{Refusal}
 use Rattle.loom_top.specs.declared.refusal.Refusal.TheVariants as refusals
-use Rattle.loom_top.specs.declared.refusal.Refusal.TheVariants.{NotBuilt, TooLong}
-use Rattle.loom_top.specs.Run.{IsSilent}
-use Rattle.loom_top.specs.declared.status.Status.{Status}
-use Rattle.loom_top.specs.declared.status.Status.TheVariants as status
+use Rattle.loom_top.specs.declared.refusal.Refusal.TheVariants.{TooLong}
 
 abbrev pub Reading : Type 0
 Reading = Result Document ReadFault
@@ -98,82 +98,69 @@ none_is_not_some : (found : Option ℕ) (rule : ℕ) → found ≡ None → foun
 none_is_not_some found rule none some = absurd (cc)
 
 -- what a refusal's line replies to
-pub reply_refuses : (rules : List Asked) (job : Job) (input line : List ℕ) (is_done : Bool) (refusal : Refusal) → Refuses job input refusal
-    → is_done ≡ false → line ≡ line_of (refusal_shown refusal) → IsReply rules job input is_done line
-reply_refuses rules job input line is_done refusal refused not_done line_is =
-    let declines : IsReply rules job input false line = (refusal, refused, line_is) in
-    subst (λ (b : Bool). IsReply rules job input b line) (sym not_done) declines
+pub reply_refuses : (rules : List Asked) (job : DocumentJob) (input line : List ℕ) (kind : ReplyKind) (refusal : Refusal) → Refuses job input refusal
+    → kind ≡ kinds.Refused → line ≡ line_of (refusal_shown refusal) → IsReply rules job input kind line
+reply_refuses rules job input line kind refusal refused refuses line_is =
+    let declines : IsReply rules job input kinds.Refused line = (refusal, refused, line_is) in
+    subst (λ (k : ReplyKind). IsReply rules job input k line) (sym refuses) declines
 
 -- the reply that refuses bytes
-pub bytes_refused : {E : Type 0} (rules : List Asked) (job : Job) (input : List ℕ) (refusal : Refusal) (result : Result Reply E) → Refuses job input refusal
-    → IfOk result (λ reply. reply.is_done ≡ false) → IfOk result (λ reply. reply.line ≡ line_of (refusal_shown refusal))
-    → IfOk result (λ reply. IsReply rules job input reply.is_done reply.line)
-bytes_refused rules job input refusal (Ok reply) refused not_done line_is =
-    reply_refuses rules job input reply.line reply.is_done refusal refused not_done line_is
-bytes_refused rules job input refusal (Err e) refused not_done line_is = _
+pub bytes_refused : {E : Type 0} (rules : List Asked) (job : DocumentJob) (input : List ℕ) (refusal : Refusal) (result : Result Reply E) → Refuses job input refusal
+    → IfOk result (λ reply. reply.kind ≡ kinds.Refused) → IfOk result (λ reply. reply.line ≡ line_of (refusal_shown refusal))
+    → IfOk result (λ reply. IsReply rules job input reply.kind reply.line)
+bytes_refused rules job input refusal (Ok reply) refused refuses line_is =
+    reply_refuses rules job input reply.line reply.kind refusal refused refuses line_is
+bytes_refused rules job input refusal (Err e) refused refuses line_is = _
 
 -- the reply that refuses a document, whichever rules there are
-pub document_refused : {E : Type 0} (job : Job) (document : Document) (refusal : Refusal) (result : Result Reply E) → IsRefused job document refusal
-    → IfOk result (λ reply. reply.is_done ≡ false) → IfOk result (λ reply. reply.line ≡ line_of (refusal_shown refusal))
-    → IfOk result (λ reply. (rules : List Asked) → IsReplyTo rules job document reply)
-document_refused job document refusal (Ok reply) refused not_done line_is = λ rules input read.
-    reply_refuses rules job input reply.line reply.is_done refusal (Refuses.not_answered document read refusal refused) not_done line_is
-document_refused job document refusal (Err e) refused not_done line_is = _
+pub refuses_document : (job : DocumentJob) (refusal : Refusal) (reply : Reply) → reply.kind ≡ kinds.Refused → reply.line ≡ line_of (refusal_shown refusal)
+    → (document : Document) → IsRefused job document refusal → (rules : List Asked) → IsReplyTo rules job document reply
+refuses_document job refusal reply refuses line_is document refused rules input read =
+    reply_refuses rules job input reply.line reply.kind refusal (Refuses.not_answered document read refusal refused) refuses line_is
+
+-- what is said of each refusing reply is said of a refusing result
+pub of_refusing : {E : Type 0} (P : Reply → Type 0) (refusal : Refusal) (result : Result Reply E)
+    → ((reply : Reply) → reply.kind ≡ kinds.Refused → reply.line ≡ line_of (refusal_shown refusal) → P reply)
+    → IfOk result (λ reply. reply.kind ≡ kinds.Refused) → IfOk result (λ reply. reply.line ≡ line_of (refusal_shown refusal)) → IfOk result P
+of_refusing P refusal (Ok reply) says refuses line_is = says reply refuses line_is
+of_refusing P refusal (Err e) says refuses line_is = _
 
 -- what is said of a reply whichever rules there are holds for some rules
-pub under_rules : {E : Type 0} (rules : List Asked) (job : Job) (document : Document) (result : Result Reply E)
+pub under_rules : {E : Type 0} (rules : List Asked) (job : DocumentJob) (document : Document) (result : Result Reply E)
     → IfOk result (λ reply. (rules : List Asked) → IsReplyTo rules job document reply) → IfOk result (IsReplyTo rules job document)
 under_rules rules job document (Ok reply) told = told rules
 under_rules rules job document (Err e) told = _
 
 -- want of memory has no name
-nameable_stop : (draft : Draft) (stop : PlanStop) → stop ≡ stops.NoMemory → IsNameable draft stop → ⊥
+pub nameable_stop : (draft : Draft) (stop : PlanStop) → stop ≡ stops.NoMemory → IsNameable draft stop → ⊥
 nameable_stop draft stop e nameable = subst (IsNameable draft) e nameable
 
--- a document with edits is refused, whatever is asked for
--- a list that isn't empty has an element
-pub some_entries : (b : Bool) (entries : List Entry) → (IsTrue b ↔ (entries ≡ [])) → b ≡ false → 0 < length entries
-some_entries true entries empty other = absurd (cc)
-some_entries false [] empty other = absurd (false≢true (empty.1 refl))
-some_entries false (entry ∷ entries) empty other = omega arith
-
-pub edits_refuse : (job : Job) (document : Document) → 0 < length document.entries → IsRefused job document NotBuilt
-edits_refuse jobs.Plan document edited = edited
-edits_refuse jobs.Extract document edited = edited
-
--- a document without edits whose planning stops is refused by the stop's name
-pub stops_planning : (document : Document) (stop : PlanStop) (named : NamedStop) → length document.entries ≡ 0
-    → FirstStop document.project stop → IsNameable document.project stop → named ≡ named_of document.project stop → IsRefused jobs.Plan document (refusals.Plan named)
-stops_planning document stop named unedited is nameable same = (unedited, (stop, is, nameable, same))
-
 -- a document to which there is an answer isn't refused
-not_refused : PlanExcludesStops → (job : Job) (document : Document) → length document.entries ≡ 0 → HasAnswer job document → (refusal : Refusal) → IsRefused job document refusal → ⊥
-not_refused law jobs.Plan document unedited plan NotBuilt edited = absurd (omega (arith, edited, unedited))
-not_refused law jobs.Plan document unedited plan (refusals.Plan stop) (none, (first, is, nameable, same)) =
-    nameable_stop document.project first (law document.project first plan is) nameable
-not_refused law jobs.Plan document unedited plan (refusals.Choice fault) refused = refused
-not_refused law jobs.Plan document unedited plan (refusals.BrokenRule rule) refused = refused
-not_refused law jobs.Plan document unedited plan TooLong refused = refused
-not_refused law jobs.Plan document unedited plan refusals.NotJson refused = refused
-not_refused law jobs.Plan document unedited plan (refusals.WrongShape path) refused = refused
-not_refused law jobs.Plan document unedited plan (refusals.Project fault) refused = refused
-not_refused law jobs.Plan document unedited plan (refusals.Limit which count) refused = refused
-not_refused law jobs.Extract document unedited answer NotBuilt edited = absurd (omega (arith, edited, unedited))
-not_refused law jobs.Extract document unedited answer (refusals.Plan stop) refused = refused
-not_refused law jobs.Extract document unedited (values, made, obeyed) (refusals.Choice fault) (none, other, fails) =
-    values_are_no_fault values fault (choice_of document.project.options document.choice) made fails
-not_refused law jobs.Extract document unedited (values, made, obeyed) (refusals.BrokenRule rule) (none, (others, made_too, broken)) =
-    let same : values ≡ others = same_value values others (choice_of document.project.options document.choice) made made_too in
-    none_is_not_some (first_false document.project.rules document.project.options (choice_at others)) rule
-    (subst (λ (v : List Bool). Obeys document.project v) same obeyed) broken
-not_refused law jobs.Extract document unedited answer TooLong refused = refused
-not_refused law jobs.Extract document unedited answer refusals.NotJson refused = refused
-not_refused law jobs.Extract document unedited answer (refusals.WrongShape path) refused = refused
-not_refused law jobs.Extract document unedited answer (refusals.Project fault) refused = refused
-not_refused law jobs.Extract document unedited answer (refusals.Limit which count) refused = refused
+not_refused : PlanExcludesStops → (job : DocumentJob) (document : Document) → HasAnswer job document → (refusal : Refusal) → IsRefused job document refusal → ⊥
+not_refused law jobs.Plan document plan (refusals.Plan stop) (first, is, nameable, same) =
+    nameable_stop (project_after document) first (law (project_after document) first plan is) nameable
+not_refused law jobs.Plan document plan (refusals.Choice fault) refused = refused
+not_refused law jobs.Plan document plan (refusals.BrokenRule rule) refused = refused
+not_refused law jobs.Plan document plan TooLong refused = refused
+not_refused law jobs.Plan document plan refusals.NotJson refused = refused
+not_refused law jobs.Plan document plan (refusals.WrongShape path) refused = refused
+not_refused law jobs.Plan document plan (refusals.Project fault) refused = refused
+not_refused law jobs.Plan document plan (refusals.Limit which count) refused = refused
+not_refused law jobs.Extract document answer (refusals.Plan stop) refused = refused
+not_refused law jobs.Extract document (values, made, obeyed) (refusals.Choice fault) (other, fails) =
+    values_are_no_fault values fault (choice_of (project_after document).options document.choice) made fails
+not_refused law jobs.Extract document (values, made, obeyed) (refusals.BrokenRule rule) (others, made_too, broken) =
+    let same : values ≡ others = same_value values others (choice_of (project_after document).options document.choice) made made_too in
+    none_is_not_some (first_false (project_after document).rules (project_after document).options (choice_at others)) rule
+    (subst (λ (v : List Bool). Obeys (project_after document) v) same obeyed) broken
+not_refused law jobs.Extract document answer TooLong refused = refused
+not_refused law jobs.Extract document answer refusals.NotJson refused = refused
+not_refused law jobs.Extract document answer (refusals.WrongShape path) refused = refused
+not_refused law jobs.Extract document answer (refusals.Project fault) refused = refused
+not_refused law jobs.Extract document answer (refusals.Limit which count) refused = refused
 
 -- an input that is accepted isn't refused
-accepted_not_refused : PlanExcludesStops → (job : Job) (input : List ℕ) (refusal : Refusal) → Accepts job input → Refuses job input refusal → ⊥
+accepted_not_refused : PlanExcludesStops → (job : DocumentJob) (input : List ℕ) (refusal : Refusal) → Accepts job input → Refuses job input refusal → ⊥
 accepted_not_refused law job input refusal accepted (Refuses.too_long long) = absurd (omega (arith, long, accepted.read.short))
 accepted_not_refused law job input refusal accepted (Refuses.not_json short none) =
     let json = json_of (want_of job) input (Ok accepted.document) (document_is_no_fault accepted.document NotJson) accepted.read.document_is in
@@ -187,52 +174,33 @@ accepted_not_refused law job input refusal accepted (Refuses.too_many short whic
 accepted_not_refused law job input refusal accepted (Refuses.not_answered document read cause refused) =
     let same : document ≡ accepted.document = same_value document accepted.document (document_of (want_of job) input) read.document_is accepted.read.document_is in
     let here : IsRefused job accepted.document cause = subst (λ (d : Document). IsRefused job d cause) same refused in
-    not_refused law job accepted.document accepted.unedited accepted.has_answer cause here
+    not_refused law job accepted.document accepted.has_answer cause here
 
 -- more bytes were taken than an input may have
-pub too_long_reply : (rules : List Asked) (job : Job) (left new : Option (List ℕ)) (line : List ℕ) (is_done : Bool) → Takes left new 67108865
-    → is_done ≡ false → line ≡ line_of (refusal_shown TooLong) → IfSome left (λ input. IsReply rules job input is_done line)
-too_long_reply rules job None new line is_done takes not_done line_is = _
-too_long_reply rules job (Some input) new line is_done takes not_done line_is =
-    reply_refuses rules job input line is_done TooLong (Refuses.too_long (omega (arith, takes_known input new 67108865 takes))) not_done line_is
-
--- the one word of a list of one
-abbrev first_of : List (List ℕ) → List ℕ
-first_of [] = []
-first_of (w ∷ ws) = w
-
--- the same words ask for one job
-pub same_job : (words : List (List ℕ)) (one other : Job) → AskFor one words → AskFor other words → one ≡ other
-same_job words jobs.Plan jobs.Plan first second = refl
-same_job words jobs.Extract jobs.Extract first second = refl
-same_job words jobs.Plan jobs.Extract first second =
-    let lengths : 4 ≡ 7 = ap (λ l. length (first_of l)) (sym first ∙ second) in
-    absurd (omega (arith, lengths))
-same_job words jobs.Extract jobs.Plan first second =
-    let lengths : 7 ≡ 4 = ap (λ l. length (first_of l)) (sym first ∙ second) in
-    absurd (omega (arith, lengths))
+pub too_long_reply : (rules : List Asked) (job : DocumentJob) (left new : Option (List ℕ)) (line : List ℕ) (kind : ReplyKind) → Takes left new 67108865
+    → kind ≡ kinds.Refused → line ≡ line_of (refusal_shown TooLong) → IfSome left (λ input. IsReply rules job input kind line)
+too_long_reply rules job None new line kind takes refuses line_is = _
+too_long_reply rules job (Some input) new line kind takes refuses line_is =
+    reply_refuses rules job input line kind TooLong (Refuses.too_long (omega (arith, takes_known input new 67108865 takes))) refuses line_is
 
 -- a line that says why an input is refused doesn't reply to one that is accepted
-accepted_not_declined : PlanExcludesStops → (rules : List Asked) (job : Job) (input line : List ℕ) → Accepts job input → IsReply rules job input false line → ⊥
+accepted_not_declined : PlanExcludesStops → (rules : List Asked) (job : DocumentJob) (input line : List ℕ) → Accepts job input
+    → IsReply rules job input kinds.Refused line → ⊥
 accepted_not_declined law rules job input line accepted (refusal, refused, line_is) = accepted_not_refused law job input refusal accepted refused
 
 -- a reply to an input that is accepted isn't a refusal
-pub reply_accepts : PlanExcludesStops → (rules : List Asked) (words : List (List ℕ)) (given job : Job) → AskFor given words → AskFor job words
-    → (left : Option (List ℕ)) (input line : List ℕ) (is_done : Bool) → left ≡ Some input → Accepts job input
-    → is_done ≡ false → IfSome left (λ input. IsReply rules given input is_done line) → ⊥
-reply_accepts law rules words given job asked_given asked left input line is_done known accepted not_done reply =
-    let told : IsReply rules given input is_done line = subst (λ (l : Option (List ℕ)). IfSome l (λ input. IsReply rules given input is_done line)) known reply in
-    let here : IsReply rules job input is_done line = subst (λ (j : Job). IsReply rules j input is_done line) (same_job words given job asked_given asked) told in
-    accepted_not_declined law rules job input line accepted (subst (λ (b : Bool). IsReply rules job input b line) not_done here)
+pub reply_accepts : PlanExcludesStops → (rules : List Asked) (job : DocumentJob) (left : Option (List ℕ)) (input line : List ℕ) (kind : ReplyKind)
+    → left ≡ Some input → Accepts job input → IfSome left (λ input. IsReply rules job input kind line) → kind ≡ kinds.Refused → ⊥
+reply_accepts law rules job left input line kind known accepted reply refuses =
+    let told : IsReply rules job input kind line = subst (λ (l : Option (List ℕ)). IfSome l (λ input. IsReply rules job input kind line)) known reply in
+    accepted_not_declined law rules job input line accepted (subst (λ (k : ReplyKind). IsReply rules job input k line) refuses told)
 
--- what is neither silent, refused nor a fault is done
-pub done_of : (s : Status) → (IsSilent s → ⊥) → (s ≡ status.Refused → ⊥) → (s ≡ status.WriteFault → ⊥) → s ≡ status.Done
-done_of status.Done loud refused fault = refl
-done_of status.Refused loud refused fault = absurd (refused refl)
-done_of status.Usage loud refused fault = absurd (loud (inl refl))
-done_of status.ReadFault loud refused fault = absurd (loud (inr (inl refl)))
-done_of status.WriteFault loud refused fault = absurd (fault refl)
-done_of status.NoMemory loud refused fault = absurd (loud (inr (inr refl)))
+-- nor does one say that a plan isn't right
+pub reply_is_no_check : (rules : List Asked) (job : DocumentJob) (left : Option (List ℕ)) (input line : List ℕ) (kind : ReplyKind)
+    → left ≡ Some input → IfSome left (λ input. IsReply rules job input kind line) → kind ≡ kinds.CheckedNo → ⊥
+reply_is_no_check rules job left input line kind known reply denies =
+    let told : IsReply rules job input kind line = subst (λ (l : Option (List ℕ)). IfSome l (λ input. IsReply rules job input kind line)) known reply in
+    subst (λ (k : ReplyKind). IsReply rules job input k line) denies told
 
 shape_differs : (fault : ReadFault) (path : List ℕ) → fault ≡ faults.WrongShape path → fault ≢ faults.NoMemory
 shape_differs fault path e h = absurd (cc)
@@ -244,17 +212,17 @@ no_json_differs : (fault : ReadFault) → fault ≡ NotJson → fault ≢ faults
 no_json_differs fault e h = absurd (cc)
 
 -- what a reading that failed says, by its fault
-pub refuses_no_json : (job : Job) (want : Want) (input : List ℕ) (fault : ReadFault) → want ≡ want_of job → length input ≤ 67108864 → fault ≡ NotJson
+pub refuses_no_json : (job : DocumentJob) (want : Want) (input : List ℕ) (fault : ReadFault) → want ≡ want_of job → length input ≤ 67108864 → fault ≡ NotJson
     → (fault ≢ faults.NoMemory → document_of want input ≡ Err fault) → Refuses job input refusals.NotJson
 refuses_no_json job want input fault wanted short e gives =
     Refuses.not_json short (no_json_of want input (gives (no_json_differs fault e) ∙ ap Err e))
 
-pub refuses_shape : (job : Job) (want : Want) (input path : List ℕ) (fault : ReadFault) → want ≡ want_of job → length input ≤ 67108864 → fault ≡ faults.WrongShape path
+pub refuses_shape : (job : DocumentJob) (want : Want) (input path : List ℕ) (fault : ReadFault) → want ≡ want_of job → length input ≤ 67108864 → fault ≡ faults.WrongShape path
     → (fault ≢ faults.NoMemory → document_of want input ≡ Err fault) → Refuses job input (refusals.WrongShape path)
 refuses_shape job want input path fault wanted short e gives =
     Refuses.not_shaped short path (ap (λ w. document_of w input) (sym wanted) ∙ gives (shape_differs fault path e) ∙ ap Err e)
 
-pub refuses_project : (job : Job) (want : Want) (input : List ℕ) (cause : ProjectFault) (fault : ReadFault) → want ≡ want_of job → length input ≤ 67108864 → fault ≡ faults.Project cause
+pub refuses_project : (job : DocumentJob) (want : Want) (input : List ℕ) (cause : ProjectFault) (fault : ReadFault) → want ≡ want_of job → length input ≤ 67108864 → fault ≡ faults.Project cause
     → (fault ≢ faults.NoMemory → document_of want input ≡ Err fault) → Refuses job input (refusals.Project cause)
 refuses_project job want input cause fault wanted short e gives =
     Refuses.not_sound short cause (ap (λ w. document_of w input) (sym wanted) ∙ gives (project_differs fault cause e) ∙ ap Err e)
@@ -262,7 +230,7 @@ refuses_project job want input cause fault wanted short e gives =
 limit_differs : (fault : ReadFault) (which : Which) (count : ℕ) → fault ≡ faults.Limit which count → fault ≢ faults.NoMemory
 limit_differs fault which count e h = absurd (cc)
 
-pub refuses_limit : (job : Job) (want : Want) (input : List ℕ) (which : Which) (count : ℕ) (fault : ReadFault) → want ≡ want_of job → length input ≤ 67108864
+pub refuses_limit : (job : DocumentJob) (want : Want) (input : List ℕ) (which : Which) (count : ℕ) (fault : ReadFault) → want ≡ want_of job → length input ≤ 67108864
     → fault ≡ faults.Limit which count → (fault ≢ faults.NoMemory → document_of want input ≡ Err fault) → Refuses job input (refusals.Limit which count)
 refuses_limit job want input which count fault wanted short e gives =
     Refuses.too_many short which count (ap (λ w. document_of w input) (sym wanted) ∙ gives (limit_differs fault which count e) ∙ ap Err e)

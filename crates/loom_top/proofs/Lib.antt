@@ -1,4 +1,11 @@
+pub mod AskedWords
 pub mod Documents
+pub mod EntryLemmas
 pub mod NameableStops
+pub mod PlanCosts
+pub mod PlanReplies
+pub mod PlanSteps
+pub mod SummaryFloats
+pub mod TrialReplies
 pub mod Variants
 pub mod Written

@@ -8,7 +8,7 @@ use Rattle.loom_formula.specs.declared.choice.ChoiceFault.TheVariants as choices
 use Rattle.loom_project.specs.declared.fault.Of.TheVariants as of
 use Rattle.loom_project.specs.declared.fault.ProjectFault.TheVariants as faults
 use Rattle.loom_top.specs.declared.refusal.Refusal.{Refusal}
-use Rattle.loom_top.specs.declared.refusal.Refusal.TheVariants.{TooLong, NotJson, WrongShape, Project, Limit, NotBuilt, Plan, Choice, BrokenRule}
+use Rattle.loom_top.specs.declared.refusal.Refusal.TheVariants.{TooLong, NotJson, WrongShape, Project, Limit, Plan, Choice, BrokenRule}
 
 -- want of memory is no cause of a refusal
 abbrev pub IsCause : Refusal → Type 0
@@ -17,7 +17,6 @@ IsCause NotJson = Unit {0}
 IsCause (WrongShape path) = Unit {0}
 IsCause (Project fault) = fault ≢ faults.NoMemory
 IsCause (Limit which count) = Unit {0}
-IsCause NotBuilt = Unit {0}
 IsCause (Plan stop) = Unit {0}
 IsCause (Choice fault) = fault ≢ choices.NoMemory
 IsCause (BrokenRule rule) = Unit {0}
@@ -36,7 +35,6 @@ refusal_object (WrongShape path) =
     object (put (codes "path") (string path) (of_kind (codes "WrongShape")))
 refusal_object (Project fault) = fault_shown fault
 refusal_object (Limit which count) = limit_shown which count
-refusal_object NotBuilt = object (of_kind (codes "NotBuilt"))
 refusal_object (Plan stop) = stop_shown stop
 refusal_object (Choice fault) = choice_fault_shown fault
 refusal_object (BrokenRule rule) =

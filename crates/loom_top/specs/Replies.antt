@@ -1,5 +1,5 @@
 -- Which bytes a job accepts, why it refuses the others, and which line replies to them.
-use Rattle.std.specs.Prelude.{ℕ, Bool, true, false, List, None, Ok, Err, ◌≡◌, ◌<◌, ◌≤◌, length}
+use Rattle.std.specs.Prelude.{ℕ, List, None, Ok, Err, ◌≡◌, ◌<◌, ◌≤◌, length}
 use Rattle.loom_base.specs.declared.limits.Which.{Which}
 use Rattle.loom_json.specs.Text.{read_json, line_of}
 use Rattle.loom_project.specs.declared.fault.ProjectFault.{ProjectFault}
@@ -9,17 +9,19 @@ use Rattle.loom_reader.specs.declared.fault.ReadFault.TheVariants as faults
 use Rattle.loom_reader.specs.Document.{document_of}
 use Rattle.loom_top.specs.Refusals.{refusal_shown}
 use Rattle.loom_top.specs.Jobs.{want_of, IsRefused, HasAnswer, IsAnswer}
-use Rattle.loom_top.specs.declared.job.Job.{Job}
+use Rattle.loom_top.specs.declared.job.DocumentJob.{DocumentJob}
 use Rattle.loom_top.specs.declared.refusal.Refusal.{Refusal}
+use Rattle.loom_top.specs.declared.reply.ReplyKind.{ReplyKind}
+use Rattle.loom_top.specs.declared.reply.ReplyKind.TheVariants as kinds
 use Rattle.loom_top.specs.declared.refusal.Refusal.TheVariants as refusals
 
 -- the bytes are no more than an input may have, and they are the document that the job needs
-pub record IsRead (job : Job) (input : List ℕ) (document : Document) : Type 0 where
+pub record IsRead (job : DocumentJob) (input : List ℕ) (document : Document) : Type 0 where
   pub short : length input ≤ 67108864
   pub document_is : document_of (want_of job) input ≡ Ok document
 
 -- why a job refuses bytes: the first cause that there is
-pub data Refuses (job : Job) (input : List ℕ) : Refusal → Type 0 where
+pub data Refuses (job : DocumentJob) (input : List ℕ) : Refusal → Type 0 where
   too_long : 67108864 < length input → Refuses job input refusals.TooLong
   not_json : length input ≤ 67108864 → read_json input ≡ None → Refuses job input refusals.NotJson
   not_shaped : length input ≤ 67108864 → (path : List ℕ)
@@ -31,15 +33,15 @@ pub data Refuses (job : Job) (input : List ℕ) : Refusal → Type 0 where
   not_answered : (document : Document) → IsRead job input document
       → (refusal : Refusal) → IsRefused job document refusal → Refuses job input refusal
 
--- the bytes are a document without edits, to which the job has an answer
-pub record Accepts (job : Job) (input : List ℕ) : Type 0 where
+-- the bytes are a document to which the job has an answer
+pub record Accepts (job : DocumentJob) (input : List ℕ) : Type 0 where
   pub document : Document
   pub read : IsRead job input document
-  pub unedited : length document.entries ≡ 0
   pub has_answer : HasAnswer job document
 
 -- the line replies to the bytes: they are accepted and it is an answer, or they are refused and it says why
-abbrev pub IsReply : List Asked → Job → List ℕ → Bool → List ℕ → Type 0
-IsReply rules job input true line = (accepted : Accepts job input) × IsAnswer rules job accepted.document line
-IsReply rules job input false line =
+abbrev pub IsReply : List Asked → DocumentJob → List ℕ → ReplyKind → List ℕ → Type 0
+IsReply rules job input kinds.Done line = (accepted : Accepts job input) × IsAnswer rules job accepted.document line
+IsReply rules job input kinds.CheckedNo line = ⊥
+IsReply rules job input kinds.Refused line =
     (refusal : Refusal) × Refuses job input refusal × (line ≡ line_of (refusal_shown refusal))

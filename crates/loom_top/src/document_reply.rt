@@ -1,15 +1,15 @@
 //! The line that replies to an input.
-ghost use Rattle.std.specs.Prelude.{◌≡◌, ◌≢◌, ◌≤◌, [], false, map, is_some, IfOk, IsTrue, length};
+ghost use Rattle.std.specs.Prelude.{◌≡◌, ◌≢◌, ◌≤◌, [], map, is_some, IfOk, IsTrue, length};
 ghost use Rattle.std.specs.List.{All};
 ghost use Rattle.loom_json.specs.Text.{line_of};
 ghost use Rattle.loom_top.specs.Refusals.{refusal_shown};
 ghost use Rattle.loom_top.specs.Replies.{IsReply};
 ghost use Rattle.loom_top.specs.RepliesInside.{IsReplyTo};
 
-use crate::job::Job;
+use crate::job::DocumentJob;
 use crate::plan_reply::plan_reply;
 use crate::refusal::Refusal;
-use crate::reply::Reply;
+use crate::reply::{Reply, ReplyKind};
 use crate::variant_reply::variant_reply;
 use loom_base::NoMemory;
 use loom_reader::{Document, ReadFault, read};
@@ -19,22 +19,19 @@ use std::alloc::Global;
 /// The reply to a document that was read for a job. Under `Extract` it has a plan.
 fn answered(
     alloc: Global,
-    job: Job,
-    document: &Document,
+    job: DocumentJob,
+    document: Document,
     rules: &mut Vec<Box<dyn DesignRule>>,
 ) -> Result<Reply, NoMemory>
-    requires plan { job ≢ Job.Plan → IsTrue (is_some document.now.plan) }
+    requires plan { job ≢ DocumentJob.Plan → IsTrue (is_some document.plan) }
     requires unseen { All (λ rule. seen_by rule ≡ []) rules.old.items }
     ensures { IfOk result (IsReplyTo
         (map (λ rule. record { kind = kind_of rule; limit = limit_of rule }) rules.old.items)
-        job document.now) }
+        job document) }
 {
-    if !document.entries.is_empty() {
-        return Reply::refused(alloc, &Refusal::NotBuilt);
-    }
     match job {
-        Job::Plan => plan_reply(alloc, document, rules),
-        Job::Extract => variant_reply(alloc, document),
+        DocumentJob::Plan => plan_reply(alloc, document, rules),
+        DocumentJob::Extract => variant_reply(alloc, document),
     }
 }
 
@@ -42,7 +39,7 @@ fn answered(
 /// its plan.
 pub fn reply_to(
     alloc: Global,
-    job: Job,
+    job: DocumentJob,
     input: &[u8],
     rules: &mut Vec<Box<dyn DesignRule>>,
 ) -> Result<Reply, NoMemory>
@@ -50,10 +47,10 @@ pub fn reply_to(
     requires unseen { All (λ rule. seen_by rule ≡ []) rules.old.items }
     ensures { IfOk result (λ reply. IsReply
         (map (λ rule. record { kind = kind_of rule; limit = limit_of rule }) rules.old.items)
-        job input.now reply.is_done reply.line) }
+        job input.now reply.kind reply.line) }
 {
     match read(alloc, input, job.want()) {
-        Ok(document) => answered(alloc, job, &document, rules),
+        Ok(document) => answered(alloc, job, document, rules),
         Err(ReadFault::NotJson) => Reply::refused(alloc, &Refusal::NotJson),
         Err(ReadFault::WrongShape { path }) => {
             Reply::refused(alloc, &Refusal::WrongShape { path })
@@ -68,7 +65,7 @@ pub fn reply_to(
 
 /// The reply to an input that is too long.
 pub fn too_long(alloc: Global) -> Result<Reply, NoMemory>
-    ensures not_done { IfOk result (λ reply. reply.is_done ≡ false) }
+    ensures kind { IfOk result (λ reply. reply.kind ≡ ReplyKind.Refused) }
     ensures line { IfOk result (λ reply. reply.line ≡ line_of (refusal_shown Refusal.TooLong)) }
 {
     Reply::refused(alloc, &Refusal::TooLong)

@@ -2,14 +2,19 @@
 #![tactic(auto)]
 
 mod document_reply;
+mod entries;
 mod job;
 mod plan_reply;
+mod price;
 mod program;
 mod refusal;
 mod reply;
 mod status;
+mod stop_names;
+mod summary;
 #[cfg(test)]
 mod tests;
+mod trial_reply;
 mod variant;
 mod variant_reply;
 

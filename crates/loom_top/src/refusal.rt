@@ -29,8 +29,6 @@ pub enum Refusal {
     Project(ProjectFault),
     /// There is more than a limit allows; the count is the limit plus one.
     Limit { which: Which, count: u64 },
-    /// The document has edits, which aren't applied yet.
-    NotBuilt,
     /// The first stop of planning the project.
     Plan(NamedStop),
     /// The first name of the choice that is no option or came before.
@@ -111,7 +109,6 @@ impl Refusal {
             Refusal::WrongShape { path } => wrong_shape(alloc, path),
             Refusal::Project(fault) => project_fault(alloc, fault),
             Refusal::Limit { which, count } => limit(alloc, *which, *count),
-            Refusal::NotBuilt => kind_alone(alloc, "NotBuilt"),
             Refusal::Plan(stop) => stop_value(alloc, stop),
             Refusal::Choice(fault) => choice_fault(alloc, *fault),
             Refusal::BrokenRule { rule } => broken_rule(alloc, *rule),

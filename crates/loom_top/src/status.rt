@@ -1,12 +1,14 @@
 ghost use Rattle.std.specs.Prelude.{◌≡◌};
-ghost use Rattle.loom_top.specs.Run.{exit_number};
+ghost use Rattle.loom_top.specs.Run.{exit_number, status_of};
+
+use crate::reply::ReplyKind;
 
 /// How a run ended.
 #[derive(Clone, Copy, Debug, PartialEq, Eq)]
 pub enum Status {
     /// The job is done, and the whole answer was written.
     Done,
-    /// The document was refused, and the line that says why was written.
+    /// What was asked for can't be had, and the line that says why was written.
     Refused,
     /// The words aren't understood. Nothing was written.
     Usage,
@@ -16,6 +18,8 @@ pub enum Status {
     WriteFault,
     /// Memory ran out. Nothing was written.
     NoMemory,
+    /// A plan was judged and isn't right, and the line that says so was written.
+    CheckedNo,
 }
 
 impl Status {
@@ -30,6 +34,18 @@ impl Status {
             Status::ReadFault => 3,
             Status::WriteFault => 4,
             Status::NoMemory => 5,
+            Status::CheckedNo => 6,
+        }
+    }
+
+    /// The status where a reply of a kind was written whole.
+    pub(crate) fn of(kind: ReplyKind) -> Status
+        ensures { result ≡ status_of kind }
+    {
+        match kind {
+            ReplyKind::Done => Status::Done,
+            ReplyKind::CheckedNo => Status::CheckedNo,
+            ReplyKind::Refused => Status::Refused,
         }
     }
 }
