@@ -14,7 +14,7 @@ use Rattle.loom_active.specs.Valid.{NeedTooManyRows}
 use Rattle.loom_plan.specs.FirstStop.{FindsSets}
 use Rattle.loom_plan.proofs.StopStages.{live-passed}
 use Rattle.loom_check.specs.Stages.{FindsLiveSets, AreSetsOf, conditions_of, AreWorked, none, next, WorksTooMuch, rows_worked}
-use Rattle.loom_check.specs.Verdict.{PassesAll, StopsCheck, search as stopped_search, rows as stopped_rows, wires as stopped_wires}
+use Rattle.loom_check.specs.Verdict.{PassesAll, StopsCheck, seeking as stopped_search, rows as stopped_rows, wires as stopped_wires}
 use Rattle.loom_accord.specs.Laws.{PassingNeverStops}
 use Rattle.loom_accord.proofs.ListFacts.{filter-alike}
 

@@ -14,7 +14,7 @@ stands_at xs x at within e = slice_get_read xs (length xs) at x refl within (sym
 pub each-member : {X : Type 0} (P : X → Type 0) (xs : List X) → Each (λ i x. P x) xs → (x : X) → Contains xs x → P x
 each-member P xs each x (at, within, e) = each at x (stands_at xs x at within e)
 
-element : {X : Type 0} (xs : List X) (at : ℕ) → at < length xs → (x : X) × (slice_get xs at ≡ Some x)
+pub element : {X : Type 0} (xs : List X) (at : ℕ) → at < length xs → (x : X) × (slice_get xs at ≡ Some x)
 element [] at within = absurd (omega (arith, within))
 element (x ∷ xs) zero within = (x, refl)
 element (x ∷ xs) (suc at) within = element xs at (omega (arith, within))

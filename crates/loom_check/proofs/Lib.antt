@@ -10,3 +10,17 @@ pub mod LeastByTables
 pub mod PinLinesOfSlots
 pub mod PinsOfLayouts
 pub mod PassingPlans
+pub mod PrintedConditions
+pub mod MetPlaces
+pub mod MetMembers
+pub mod MetTables
+pub mod NetsOfSets
+pub mod TablesOfNets
+pub mod PrintedSets
+pub mod JudgedStages
+pub mod FoundPlaces
+pub mod PickedSets
+pub mod SetConditions
+pub mod WireWork
+pub mod EndsAtPins
+pub mod PinClashes

@@ -61,7 +61,7 @@ module _ (draft : Draft) (passed : draft_check draft ≡ Ok tt) (sound : HasSoun
   pub chosen_is_need : chosen terminals mask ≡ need_of draft choice net
   chosen_is_need = ap (chosen terminals) (sym live.needs) ∙ need-chosen draft choice net
 
-  two_chosen : 2 ≤ length (chosen terminals mask)
+  pub two_chosen : 2 ≤ length (chosen terminals mask)
   two_chosen = let some = live.some in omega (arith, some, ap length chosen_is_need)
 
   some_terminal : 0 < mask

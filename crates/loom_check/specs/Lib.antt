@@ -1,3 +1,10 @@
 pub mod Stages
+pub mod IllegalTables
+pub mod LiveKeys
+pub mod MetSets
+pub mod MetParts
 pub mod Verdict
 pub mod Laws
+pub mod ConditionAnswers
+pub mod WireConditions
+pub mod PinTables

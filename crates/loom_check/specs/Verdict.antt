@@ -67,7 +67,7 @@ IsVerdict draft plan (No rule place) = FailsFirst draft plan rule place
 -- the judging stops so: as the search for live sets does; or the printed rows need too many rows; or the disjunctions up to some wire do,
 -- where all wires before it have their conditions. Memory may run out at any time
 pub data StopsCheck (draft : Draft) (plan : Plan) : ActiveStop → Type 0 where
-  search : (stop : ActiveStop) → IsLiveStop draft stop → StopsCheck draft plan stop
+  seeking : (stop : ActiveStop) → IsLiveStop draft stop → StopsCheck draft plan stop
   rows : FindsLiveSets draft → AreRowsSound draft plan → NeedTooManyRows (rows_worked draft plan)
       → StopsCheck draft plan (Limit Rows 262145)
   wires : (at : ℕ) → HasConditions draft plan at → WorksTooMuch draft plan (at + 1) → StopsCheck draft plan (Limit Rows 262145)
