@@ -1,13 +1,12 @@
 -- The one job that words mean.
-use Rattle.std.proofs.Common.{◌≡◌, ◌≢◌, ℕ, Bool, true, false, List, [], Option, Some, None, refl, sym, subst, arith}
+use Rattle.std.proofs.Common.{◌≡◌, ◌≢◌, ℕ, Bool, true, false, List, [], Option, Some, None, refl, sym, arith}
 use Rattle.clap.specs.Words.{subcommand_of, takes}
 use Rattle.loom_base.specs.Streams.{TakesAtMost}
 use Rattle.loom_words.specs.Command.{loom_app}
 use Rattle.loom_words.specs.Jobs.{job_in}
 use Rattle.loom_words.specs.declared.job.Job.{Job}
 use Rattle.loom_words.specs.declared.job.Job.TheVariants as jobs
-use Rattle.loom_top.specs.Replies.{Accepts}
-use Rattle.loom_top.specs.Run.{AskFor, AskForDocument, IsBuilt}
+use Rattle.loom_top.specs.Run.{AskFor, AskForDocument}
 use Rattle.loom_top.specs.declared.job.DocumentJob.{DocumentJob}
 use Rattle.loom_top.specs.declared.job.DocumentJob.TheVariants as documents
 
@@ -17,10 +16,10 @@ same_meant found one other first second = cc
 pub plan_is_not_extract : jobs.Plan ≢ jobs.Extract
 plan_is_not_extract e = absurd (cc)
 
-plan_is_not_check : jobs.Plan ≢ jobs.Check
+pub plan_is_not_check : jobs.Plan ≢ jobs.Check
 plan_is_not_check e = absurd (cc)
 
-extract_is_not_check : jobs.Extract ≢ jobs.Check
+pub extract_is_not_check : jobs.Extract ≢ jobs.Check
 extract_is_not_check e = absurd (cc)
 
 pub plan_is_not_trial : (n : ℕ) → jobs.Plan ≢ jobs.Trial n
@@ -29,7 +28,7 @@ plan_is_not_trial n e = absurd (cc)
 pub extract_is_not_trial : (n : ℕ) → jobs.Extract ≢ jobs.Trial n
 extract_is_not_trial n e = absurd (cc)
 
-check_is_not_trial : (n : ℕ) → jobs.Check ≢ jobs.Trial n
+pub check_is_not_trial : (n : ℕ) → jobs.Check ≢ jobs.Trial n
 check_is_not_trial n e = absurd (cc)
 
 pub same_trial : (n m : ℕ) → jobs.Trial n ≡ jobs.Trial m → n ≡ m
@@ -39,10 +38,6 @@ same_trial n m e = cc
 pub not_taken : (words : List (List ℕ)) (job : Job) → takes loom_app words ≡ false → AskFor job words → ⊥
 not_taken words job fails asked = let passes = asked.taken in absurd (cc)
 
--- words that mean `check` name no job that is built
-pub not_built : (found : Option Job) → found ≡ Some jobs.Check → (job : Job) → found ≡ Some job → IsBuilt job → ⊥
-not_built found meant job other built = subst IsBuilt (same_meant found job jobs.Check other meant) built
-
 module _ (words : List (List ℕ)) where
   pub asks_job : (job : Job) → job_in (subcommand_of loom_app words) ≡ Some job → (other : Job) → AskFor other words → job ≡ other
   asks_job job meant other asked = same_meant (job_in (subcommand_of loom_app words)) job other meant asked.meant
@@ -51,24 +46,30 @@ module _ (words : List (List ℕ)) where
   pub asks_plan : job_in (subcommand_of loom_app words) ≡ Some jobs.Plan → (job : DocumentJob) → AskForDocument job words → job ≡ documents.Plan
   asks_plan meant documents.Plan asked = refl
   asks_plan meant documents.Extract asked = absurd (plan_is_not_extract (asks_job jobs.Plan meant jobs.Extract asked))
+  asks_plan meant documents.Check asked = absurd (plan_is_not_check (asks_job jobs.Plan meant jobs.Check asked))
 
   pub asks_extract : job_in (subcommand_of loom_app words) ≡ Some jobs.Extract → (job : DocumentJob) → AskForDocument job words
       → job ≡ documents.Extract
   asks_extract meant documents.Plan asked = absurd (plan_is_not_extract (sym (asks_job jobs.Extract meant jobs.Plan asked)))
   asks_extract meant documents.Extract asked = refl
+  asks_extract meant documents.Check asked = absurd (extract_is_not_check (asks_job jobs.Extract meant jobs.Check asked))
 
-  -- words that mean `check` or a trial ask for none
-  pub check_asks_none : job_in (subcommand_of loom_app words) ≡ Some jobs.Check → (job : DocumentJob) → AskForDocument job words → ⊥
-  check_asks_none meant documents.Plan asked = plan_is_not_check (sym (asks_job jobs.Check meant jobs.Plan asked))
-  check_asks_none meant documents.Extract asked = extract_is_not_check (sym (asks_job jobs.Check meant jobs.Extract asked))
+  pub asks_check : job_in (subcommand_of loom_app words) ≡ Some jobs.Check → (job : DocumentJob) → AskForDocument job words
+      → job ≡ documents.Check
+  asks_check meant documents.Plan asked = absurd (plan_is_not_check (sym (asks_job jobs.Check meant jobs.Plan asked)))
+  asks_check meant documents.Extract asked = absurd (extract_is_not_check (sym (asks_job jobs.Check meant jobs.Extract asked)))
+  asks_check meant documents.Check asked = refl
 
+  -- words that mean a trial ask for none
   pub trial_asks_none : (n : ℕ) → job_in (subcommand_of loom_app words) ≡ Some (jobs.Trial n) → (job : DocumentJob) → AskForDocument job words → ⊥
   trial_asks_none n meant documents.Plan asked = plan_is_not_trial n (sym (asks_job (jobs.Trial n) meant jobs.Plan asked))
   trial_asks_none n meant documents.Extract asked = extract_is_not_trial n (sym (asks_job (jobs.Trial n) meant jobs.Extract asked))
+  trial_asks_none n meant documents.Check asked = check_is_not_trial n (sym (asks_job (jobs.Trial n) meant jobs.Check asked))
 
   pub untaken_ask_none : takes loom_app words ≡ false → (job : DocumentJob) → AskForDocument job words → ⊥
   untaken_ask_none fails documents.Plan asked = not_taken words jobs.Plan fails asked
   untaken_ask_none fails documents.Extract asked = not_taken words jobs.Extract fails asked
+  untaken_ask_none fails documents.Check asked = not_taken words jobs.Check fails asked
 
   -- words that mean another job ask for no trial
   pub plan_asks_no_trial : job_in (subcommand_of loom_app words) ≡ Some jobs.Plan → (n : ℕ) → AskFor (jobs.Trial n) words → ⊥

@@ -1,7 +1,6 @@
 -- What the reading of bytes says of them, and of the reply that they get.
-use Rattle.std.proofs.Common.{inl, inr, [], ◌∷◌, ◌<◌, IfOk, IfSome, ◌≡◌, ◌≢◌, ℕ, ◌≤◌, Bool, true, false, List, Option, Some, None, Result, Ok, Err, length, refl, sym, ◌∙◌, ap, subst, arith}
-use Rattle.std.specs.Prelude.{⊤, ◌↔◌, IsTrue, if◌then◌else◌, nat_le}
-use Rattle.std.proofs.lemmas.Bool.{false≢true}
+use Rattle.std.proofs.Common.{IfOk, IfSome, ◌≡◌, ◌≢◌, ℕ, ◌≤◌, Bool, true, false, List, Option, Some, None, Result, Ok, Err, length, refl, sym, ◌∙◌, ap, subst, arith}
+use Rattle.std.specs.Prelude.{⊤, if◌then◌else◌, nat_le}
 use Rattle.std.specs.Option.{option_map_or}
 use Rattle.loom_base.specs.declared.limits.Which.{Which}
 use Rattle.loom_base.specs.Streams.{Takes}
@@ -14,7 +13,6 @@ use Rattle.loom_project.specs.declared.draft.Draft.{Draft}
 use Rattle.loom_project.specs.declared.fault.ProjectFault.{ProjectFault}
 use Rattle.loom_project.specs.Sound.{draft_check}
 use Rattle.loom_reader.specs.declared.document.Document.{Document}
-use Rattle.loom_reader.specs.declared.entry.Entry.{Entry}
 use Rattle.loom_reader.specs.declared.fault.ReadFault.{ReadFault}
 use Rattle.loom_reader.specs.declared.fault.ReadFault.TheVariants as faults
 use Rattle.loom_reader.specs.declared.fault.ReadFault.TheVariants.{NotJson}
@@ -25,15 +23,18 @@ use Rattle.loom_reader.specs.Document.{document_of, document_at, shaped, checked
 use Rattle.loom_types.specs.declared.stop.PlanStop.{PlanStop}
 use Rattle.loom_types.specs.declared.stop.PlanStop.TheVariants as stops
 use Rattle.loom_rules.specs.Judged.{Asked}
-use Rattle.loom_answer.specs.Stops.{IsNameable, named_of}
+use Rattle.loom_answer.specs.Stops.{IsNameable}
 use Rattle.loom_answer.specs.declared.named_stop.NamedStop.{NamedStop}
-use Rattle.loom_plan.specs.FirstStop.{FirstStop}
 use Rattle.loom_plan.specs.StopsLaw.{PlanExcludesStops}
 use Rattle.loom_extract.specs.Variant.{first_false}
 use Rattle.loom_top.specs.Entries.{project_after}
 use Rattle.loom_top.specs.Refusals.{refusal_shown}
-use Rattle.loom_top.specs.Jobs.{want_of, Obeys, IsRefused, HasAnswer}
-use Rattle.loom_top.specs.Replies.{Accepts, Refuses, IsReply}
+use Rattle.loom_types.specs.declared.plan.Plan.{Plan}
+use Rattle.loom_check.specs.Verdict.{PassesAll}
+use Rattle.loom_accord.specs.Laws.{PassingNeverFails, PassingNeverStops}
+use Rattle.loom_top.specs.Jobs.{want_of, Obeys, IsRefused, HasAnswer, IsDenial}
+use Rattle.loom_top.specs.Verdicts.{IsOwn, IsNoAnswer, IsUnjudged}
+use Rattle.loom_top.specs.Replies.{Accepts, HasOwnPlan, IsRead, Refuses, IsReply}
 use Rattle.loom_top.specs.RepliesInside.{IsReplyTo}
 use Rattle.loom_top.specs.declared.job.DocumentJob.{DocumentJob}
 use Rattle.loom_top.specs.declared.job.DocumentJob.TheVariants as jobs
@@ -135,10 +136,47 @@ under_rules rules job document (Err e) told = _
 pub nameable_stop : (draft : Draft) (stop : PlanStop) → stop ≡ stops.NoMemory → IsNameable draft stop → ⊥
 nameable_stop draft stop e nameable = subst (IsNameable draft) e nameable
 
+same_plan : (one other : Plan) (printed : Option Plan) → printed ≡ Some one → printed ≡ Some other → one ≡ other
+same_plan one other printed first second = cc
+
+-- the laws by which what is accepted is neither refused nor denied
+pub record AcceptingLaws : Type 0 where
+  pub planned : PlanExcludesStops
+  pub fails : PassingNeverFails
+  pub stops : PassingNeverStops
+
+-- a plan that passes all rules is judged, and isn't said to fail
+passing_is_judged : AcceptingLaws → (document : Document) (plan : Plan) → document.plan ≡ Some plan → PassesAll (project_after document) plan
+    → (named : NamedStop) → IsUnjudged document named → ⊥
+passing_is_judged laws document plan printed passes named unjudged =
+    let same : plan ≡ unjudged.plan = same_plan plan unjudged.plan document.plan printed unjudged.printed in
+    unjudged.other (laws.stops (project_after document) unjudged.plan
+    (subst (λ (p : Plan). PassesAll (project_after document) p) same passes) unjudged.stop unjudged.stops)
+
+passing_is_not_denied : AcceptingLaws → (document : Document) (plan : Plan) → document.plan ≡ Some plan → PassesAll (project_after document) plan
+    → (line : List ℕ) → IsNoAnswer document line → ⊥
+passing_is_not_denied laws document plan printed passes line denial =
+    let same : plan ≡ denial.plan = same_plan plan denial.plan document.plan printed denial.printed in
+    laws.fails (project_after document) denial.plan (subst (λ (p : Plan). PassesAll (project_after document) p) same passes) denial.rule denial.place
+    denial.fails
+
+-- what planning answers is judged, and isn't said to fail
+own_is_judged : (document : Document) (plan : Plan) → document.plan ≡ Some plan → IsOwn (project_after document) plan
+    → (refusal : Refusal) → IsRefused jobs.Check document refusal → ⊥
+own_is_judged document plan printed own (refusals.Plan named) unjudged =
+    unjudged.foreign (subst (λ (p : Plan). IsOwn (project_after document) p) (same_plan plan unjudged.plan document.plan printed unjudged.printed) own)
+own_is_judged document plan printed own (refusals.Choice fault) refused = refused
+own_is_judged document plan printed own (refusals.BrokenRule rule) refused = refused
+own_is_judged document plan printed own TooLong refused = refused
+own_is_judged document plan printed own refusals.NotJson refused = refused
+own_is_judged document plan printed own (refusals.WrongShape path) refused = refused
+own_is_judged document plan printed own (refusals.Project fault) refused = refused
+own_is_judged document plan printed own (refusals.Limit which count) refused = refused
+
 -- a document to which there is an answer isn't refused
-not_refused : PlanExcludesStops → (job : DocumentJob) (document : Document) → HasAnswer job document → (refusal : Refusal) → IsRefused job document refusal → ⊥
+not_refused : AcceptingLaws → (job : DocumentJob) (document : Document) → HasAnswer job document → (refusal : Refusal) → IsRefused job document refusal → ⊥
 not_refused law jobs.Plan document plan (refusals.Plan stop) (first, is, nameable, same) =
-    nameable_stop (project_after document) first (law (project_after document) first plan is) nameable
+    nameable_stop (project_after document) first (law.planned (project_after document) first plan is) nameable
 not_refused law jobs.Plan document plan (refusals.Choice fault) refused = refused
 not_refused law jobs.Plan document plan (refusals.BrokenRule rule) refused = refused
 not_refused law jobs.Plan document plan TooLong refused = refused
@@ -158,23 +196,42 @@ not_refused law jobs.Extract document answer refusals.NotJson refused = refused
 not_refused law jobs.Extract document answer (refusals.WrongShape path) refused = refused
 not_refused law jobs.Extract document answer (refusals.Project fault) refused = refused
 not_refused law jobs.Extract document answer (refusals.Limit which count) refused = refused
+not_refused law jobs.Check document (plan, printed, passes) (refusals.Plan named) unjudged =
+    passing_is_judged law document plan printed passes named unjudged
+not_refused law jobs.Check document answer (refusals.Choice fault) refused = refused
+not_refused law jobs.Check document answer (refusals.BrokenRule rule) refused = refused
+not_refused law jobs.Check document answer TooLong refused = refused
+not_refused law jobs.Check document answer refusals.NotJson refused = refused
+not_refused law jobs.Check document answer (refusals.WrongShape path) refused = refused
+not_refused law jobs.Check document answer (refusals.Project fault) refused = refused
+not_refused law jobs.Check document answer (refusals.Limit which count) refused = refused
 
--- an input that is accepted isn't refused
-accepted_not_refused : PlanExcludesStops → (job : DocumentJob) (input : List ℕ) (refusal : Refusal) → Accepts job input → Refuses job input refusal → ⊥
-accepted_not_refused law job input refusal accepted (Refuses.too_long long) = absurd (omega (arith, long, accepted.read.short))
-accepted_not_refused law job input refusal accepted (Refuses.not_json short none) =
-    let json = json_of (want_of job) input (Ok accepted.document) (document_is_no_fault accepted.document NotJson) accepted.read.document_is in
+-- nor is it denied
+not_denied : AcceptingLaws → (job : DocumentJob) (document : Document) → HasAnswer job document → (line : List ℕ) → IsDenial job document line → ⊥
+not_denied law jobs.Plan document answer line denies = denies
+not_denied law jobs.Extract document answer line denies = denies
+not_denied law jobs.Check document (plan, printed, passes) line denies = passing_is_not_denied law document plan printed passes line denies
+
+-- the document that bytes are read as is one
+same_document : (job : DocumentJob) (input : List ℕ) (one other : Document) → IsRead job input one → IsRead job input other → one ≡ other
+same_document job input one other first second =
+    same_value one other (document_of (want_of job) input) first.document_is second.document_is
+
+-- bytes that are read as a document that isn't refused aren't refused
+read_not_refused : (job : DocumentJob) (input : List ℕ) (document : Document) → IsRead job input document
+    → ((refusal : Refusal) → IsRefused job document refusal → ⊥) → (refusal : Refusal) → Refuses job input refusal → ⊥
+read_not_refused job input document read free refusal (Refuses.too_long long) = absurd (omega (arith, long, read.short))
+read_not_refused job input document read free refusal (Refuses.not_json short none) =
+    let json = json_of (want_of job) input (Ok document) (document_is_no_fault document NotJson) read.document_is in
     absurd (cc)
-accepted_not_refused law job input refusal accepted (Refuses.not_shaped short path fails) =
-    document_is_no_fault accepted.document (faults.WrongShape path) (sym accepted.read.document_is ∙ fails)
-accepted_not_refused law job input refusal accepted (Refuses.not_sound short fault fails) =
-    document_is_no_fault accepted.document (faults.Project fault) (sym accepted.read.document_is ∙ fails)
-accepted_not_refused law job input refusal accepted (Refuses.too_many short which count fails) =
-    document_is_no_fault accepted.document (faults.Limit which count) (sym accepted.read.document_is ∙ fails)
-accepted_not_refused law job input refusal accepted (Refuses.not_answered document read cause refused) =
-    let same : document ≡ accepted.document = same_value document accepted.document (document_of (want_of job) input) read.document_is accepted.read.document_is in
-    let here : IsRefused job accepted.document cause = subst (λ (d : Document). IsRefused job d cause) same refused in
-    not_refused law job accepted.document accepted.has_answer cause here
+read_not_refused job input document read free refusal (Refuses.not_shaped short path fails) =
+    document_is_no_fault document (faults.WrongShape path) (sym read.document_is ∙ fails)
+read_not_refused job input document read free refusal (Refuses.not_sound short fault fails) =
+    document_is_no_fault document (faults.Project fault) (sym read.document_is ∙ fails)
+read_not_refused job input document read free refusal (Refuses.too_many short which count fails) =
+    document_is_no_fault document (faults.Limit which count) (sym read.document_is ∙ fails)
+read_not_refused job input document read free refusal (Refuses.not_answered other also cause refused) =
+    free cause (subst (λ (d : Document). IsRefused job d cause) (same_document job input other document also read) refused)
 
 -- more bytes were taken than an input may have
 pub too_long_reply : (rules : List Asked) (job : DocumentJob) (left new : Option (List ℕ)) (line : List ℕ) (kind : ReplyKind) → Takes left new 67108865
@@ -183,24 +240,57 @@ too_long_reply rules job None new line kind takes refuses line_is = _
 too_long_reply rules job (Some input) new line kind takes refuses line_is =
     reply_refuses rules job input line kind TooLong (Refuses.too_long (omega (arith, takes_known input new 67108865 takes))) refuses line_is
 
--- a line that says why an input is refused doesn't reply to one that is accepted
-accepted_not_declined : PlanExcludesStops → (rules : List Asked) (job : DocumentJob) (input line : List ℕ) → Accepts job input
-    → IsReply rules job input kinds.Refused line → ⊥
-accepted_not_declined law rules job input line accepted (refusal, refused, line_is) = accepted_not_refused law job input refusal accepted refused
+-- a reply to bytes that are read as a document that isn't refused is no refusal
+read_not_declined : (rules : List Asked) (job : DocumentJob) (input line : List ℕ) (document : Document) → IsRead job input document
+    → ((refusal : Refusal) → IsRefused job document refusal → ⊥) → IsReply rules job input kinds.Refused line → ⊥
+read_not_declined rules job input line document read free (refusal, refused, line_is) =
+    read_not_refused job input document read free refusal refused
+
+-- and one to a document that isn't denied denies nothing
+read_not_denied : (rules : List Asked) (job : DocumentJob) (input line : List ℕ) (document : Document) → IsRead job input document
+    → (IsDenial job document line → ⊥) → IsReply rules job input kinds.CheckedNo line → ⊥
+read_not_denied rules job input line document read free (other, also, denies) =
+    free (subst (λ (d : Document). IsDenial job d line) (same_document job input other document also read) denies)
+
+-- what is known of a reply to known bytes
+of_known : (rules : List Asked) (job : DocumentJob) (left : Option (List ℕ)) (input line : List ℕ) (kind other : ReplyKind) → left ≡ Some input
+    → IfSome left (λ input. IsReply rules job input kind line) → kind ≡ other → IsReply rules job input other line
+of_known rules job left input line kind other known reply is =
+    let told : IsReply rules job input kind line = subst (λ (l : Option (List ℕ)). IfSome l (λ input. IsReply rules job input kind line)) known reply in
+    subst (λ (k : ReplyKind). IsReply rules job input k line) is told
 
 -- a reply to an input that is accepted isn't a refusal
-pub reply_accepts : PlanExcludesStops → (rules : List Asked) (job : DocumentJob) (left : Option (List ℕ)) (input line : List ℕ) (kind : ReplyKind)
+pub reply_accepts : AcceptingLaws → (rules : List Asked) (job : DocumentJob) (left : Option (List ℕ)) (input line : List ℕ) (kind : ReplyKind)
     → left ≡ Some input → Accepts job input → IfSome left (λ input. IsReply rules job input kind line) → kind ≡ kinds.Refused → ⊥
-reply_accepts law rules job left input line kind known accepted reply refuses =
-    let told : IsReply rules job input kind line = subst (λ (l : Option (List ℕ)). IfSome l (λ input. IsReply rules job input kind line)) known reply in
-    accepted_not_declined law rules job input line accepted (subst (λ (k : ReplyKind). IsReply rules job input k line) refuses told)
+reply_accepts laws rules job left input line kind known accepted reply refuses =
+    read_not_declined rules job input line accepted.document accepted.read (not_refused laws job accepted.document accepted.has_answer)
+    (of_known rules job left input line kind kinds.Refused known reply refuses)
 
--- nor does one say that a plan isn't right
-pub reply_is_no_check : (rules : List Asked) (job : DocumentJob) (left : Option (List ℕ)) (input line : List ℕ) (kind : ReplyKind)
-    → left ≡ Some input → IfSome left (λ input. IsReply rules job input kind line) → kind ≡ kinds.CheckedNo → ⊥
-reply_is_no_check rules job left input line kind known reply denies =
-    let told : IsReply rules job input kind line = subst (λ (l : Option (List ℕ)). IfSome l (λ input. IsReply rules job input kind line)) known reply in
-    subst (λ (k : ReplyKind). IsReply rules job input k line) denies told
+-- nor does one say no
+pub reply_says_yes : AcceptingLaws → (rules : List Asked) (job : DocumentJob) (left : Option (List ℕ)) (input line : List ℕ) (kind : ReplyKind)
+    → left ≡ Some input → Accepts job input → IfSome left (λ input. IsReply rules job input kind line) → kind ≡ kinds.CheckedNo → ⊥
+reply_says_yes laws rules job left input line kind known accepted reply denies =
+    read_not_denied rules job input line accepted.document accepted.read (not_denied laws job accepted.document accepted.has_answer line)
+    (of_known rules job left input line kind kinds.CheckedNo known reply denies)
+
+own_not_denied : (document : Document) (plan : Plan) → document.plan ≡ Some plan → IsOwn (project_after document) plan
+    → (line : List ℕ) → IsNoAnswer document line → ⊥
+own_not_denied document plan printed own line denial =
+    denial.foreign (subst (λ (p : Plan). IsOwn (project_after document) p) (same_plan plan denial.plan document.plan printed denial.printed) own)
+
+-- the reply to what planning answers is no refusal
+pub own_accepts : (rules : List Asked) (job : DocumentJob) (left : Option (List ℕ)) (input line : List ℕ) (kind : ReplyKind) → job ≡ jobs.Check
+    → left ≡ Some input → HasOwnPlan input → IfSome left (λ input. IsReply rules job input kind line) → kind ≡ kinds.Refused → ⊥
+own_accepts rules job left input line kind checks known own reply refuses =
+    read_not_declined rules jobs.Check input line own.document own.read (own_is_judged own.document own.plan own.printed own.own)
+    (subst (λ (j : DocumentJob). IsReply rules j input kinds.Refused line) checks (of_known rules job left input line kind kinds.Refused known reply refuses))
+
+-- nor does it say no
+pub own_says_yes : (rules : List Asked) (job : DocumentJob) (left : Option (List ℕ)) (input line : List ℕ) (kind : ReplyKind) → job ≡ jobs.Check
+    → left ≡ Some input → HasOwnPlan input → IfSome left (λ input. IsReply rules job input kind line) → kind ≡ kinds.CheckedNo → ⊥
+own_says_yes rules job left input line kind checks known own reply denies =
+    read_not_denied rules jobs.Check input line own.document own.read (own_not_denied own.document own.plan own.printed own.own line)
+    (subst (λ (j : DocumentJob). IsReply rules j input kinds.CheckedNo line) checks (of_known rules job left input line kind kinds.CheckedNo known reply denies))
 
 shape_differs : (fault : ReadFault) (path : List ℕ) → fault ≡ faults.WrongShape path → fault ≢ faults.NoMemory
 shape_differs fault path e h = absurd (cc)

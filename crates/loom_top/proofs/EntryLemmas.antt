@@ -1,11 +1,9 @@
 -- What becomes of entries, one more after another.
-use Rattle.std.proofs.Common.{◌≡◌, ℕ, zero, suc, List, [], ◌∷◌, ◌++◌, length, take, get_or, Option, Some, None, Result, Ok, Err, refl, sym, ap, subst, ◌∙◌, ◌<◌, ◌+◌, arith}
+use Rattle.std.proofs.Common.{◌≡◌, ℕ, List, [], ◌∷◌, ◌++◌, length, take, get_or, Option, Some, None, Result, Ok, Err, refl, sym, ap, subst, ◌∙◌, ◌<◌, ◌+◌}
 use Rattle.std.specs.Prelude.{unwrap_or}
 use Rattle.std.specs.Result.{result_unwrap_or}
 use Rattle.loom_base.proofs.EachLemmas.{take_next}
-use Rattle.loom_edits.specs.declared.edit.Edit.{Edit}
-use Rattle.loom_edits.specs.declared.fault.EditFault.{EditFault}
-use Rattle.loom_undo.specs.Changes.{Changes, after_edit, after_undo, after_redo}
+use Rattle.loom_undo.specs.Changes.{Changes}
 use Rattle.loom_project.specs.declared.draft.Draft.{Draft}
 use Rattle.loom_types.specs.declared.stop.PlanStop.{PlanStop}
 use Rattle.loom_answer.specs.Stops.{IsNameable, named_of}

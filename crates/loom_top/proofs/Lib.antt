@@ -8,4 +8,5 @@ pub mod PlanSteps
 pub mod SummaryFloats
 pub mod TrialReplies
 pub mod Variants
+pub mod VerdictReplies
 pub mod Written

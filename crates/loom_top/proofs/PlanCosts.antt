@@ -1,16 +1,13 @@
 -- What a plan costs fits a number of 64 bits.
-use Rattle.std.proofs.Common.{◌≡◌, ℕ, ◌<◌, ◌≤◌, ◌*◌, ◌^◌, ◌∷◌, [], List, length, map, get_or, Option, Some, None, IfSome, sum_by, inl, inr, ap, subst, sym, ◌∙◌, arith, Contains}
+use Rattle.std.proofs.Common.{◌≡◌, ℕ, ◌<◌, ◌≤◌, ◌*◌, ◌^◌, List, length, map, get_or, Option, Some, None, IfSome, sum_by, inl, inr, subst, sym, ◌∙◌, arith, Contains}
 use Rattle.std.specs.List.{All}
 use Rattle.std.proofs.lemmas.Bool.{cases_lt}
 use Rattle.std.proofs.lemmas.List.{get_or_past, length-map}
 use Rattle.std.proofs.lemmas.List.Elements.{All-map}
 use Rattle.std.proofs.lemmas.List.Sums.{sum_by-le}
-use Rattle.loom_topology.specs.Table.{TableView, IsWhole, cell_at, cell_index}
 use Rattle.loom_project.specs.declared.draft.Draft.{Draft}
 use Rattle.loom_types.specs.declared.plan.Plan.{Plan}
 use Rattle.loom_types.specs.declared.plan.SetLine.{SetLine}
-use Rattle.loom_types.specs.SetMask.{rest_of, stem_node}
-use Rattle.loom_project.specs.Project.{net_topology, cavities_of}
 use Rattle.loom_active.specs.LiveSets.{IsLiveSet, IsListedBefore, PrintsLiveSets}
 use Rattle.loom_active.specs.LiveStops.{HaveMoreSets}
 use Rattle.loom_active.proofs.Pairs.{at_index, pairs-map}

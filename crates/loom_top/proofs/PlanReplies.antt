@@ -1,5 +1,5 @@
 -- What a plan's line and a stop reply to a document.
-use Rattle.std.proofs.Common.{◌≡◌, ℕ, ◌≤◌, Bool, true, false, List, [], Result, Ok, Err, length, refl, sym, ap, ap₂, subst, ◌∙◌, IfOk}
+use Rattle.std.proofs.Common.{◌≡◌, ℕ, List, [], Result, Ok, Err, refl, sym, ap, ap₂, subst, ◌∙◌, IfOk}
 use Rattle.loom_json.specs.Text.{line_of}
 use Rattle.loom_project.specs.declared.draft.Draft.{Draft}
 use Rattle.loom_types.specs.declared.plan.Plan.{Plan}
@@ -17,7 +17,6 @@ use Rattle.loom_session.specs.Session.{SessionView}
 use Rattle.loom_reader.specs.declared.document.Document.{Document}
 use Rattle.loom_reader.specs.declared.entry.Entry.{Entry}
 use Rattle.loom_top.specs.Entries.{fresh, after_entries, project_after, AreOutcomes}
-use Rattle.loom_top.specs.Jobs.{IsPlanAnswer}
 use Rattle.loom_top.specs.Refusals.{refusal_shown}
 use Rattle.loom_top.specs.Replies.{IsRead, IsReply}
 use Rattle.loom_top.specs.RepliesInside.{IsLineOf, IsStopReply, HasParts, RepliesToParts, IsReplyTo}

@@ -1,11 +1,10 @@
 -- The number of a plan's steps fits a number of 64 bits.
-use Rattle.std.proofs.Common.{◌≡◌, ℕ, ◌≤◌, ◌<◌, ◌+◌, ◌-◌, ◌*◌, ◌^◌, List, length, map, get_or, Option, Ok, ap, sym, subst, ◌∙◌, arith, Contains, sum_by}
+use Rattle.std.proofs.Common.{◌≡◌, ℕ, ◌≤◌, ◌<◌, ◌-◌, ◌*◌, ◌^◌, List, length, get_or, Option, Ok, ap, sym, subst, arith, Contains, sum_by}
 use Rattle.std.proofs.lemmas.Nat.{mul-le, pow_below}
 use Rattle.std.proofs.lemmas.List.{length-map}
 use Rattle.std.proofs.lemmas.List.Sums.{sum_by-le}
 use Rattle.loom_topology.specs.Topology.{TopologyView}
 use Rattle.loom_topology.specs.Table.{cell_at}
-use Rattle.loom_topology.specs.Legal.{IsMask}
 use Rattle.loom_topology.specs.WiringTree.{Tree}
 use Rattle.loom_project.specs.declared.draft.Draft.{Draft}
 use Rattle.loom_project.specs.declared.draft.TerminalDraft.{TerminalDraft}
@@ -16,9 +15,8 @@ use Rattle.loom_project.specs.Sound.{draft_check}
 use Rattle.loom_types.specs.declared.plan.Plan.{Plan}
 use Rattle.loom_types.specs.declared.plan.SetLine.{SetLine}
 use Rattle.loom_types.specs.SetMask.{rest_of, stem_node}
-use Rattle.loom_types.specs.LayoutTree.{step_of, tree_of}
-use Rattle.loom_layout.specs.Layout.{Laying, Laid, IsLayoutOf, nothing_laid, tree_laid}
-use Rattle.loom_layout.specs.Walk.{nearer, left_of}
+use Rattle.loom_types.specs.LayoutTree.{step_of}
+use Rattle.loom_layout.specs.Walk.{left_of}
 use Rattle.loom_layout.proofs.Left.{few_steps, nearer-le}
 use Rattle.loom_active.proofs.Pairs.{at_index}
 use Rattle.loom_active.proofs.SetLemmas.{live-in_range}

@@ -1,5 +1,5 @@
 -- What is printed of a trial's plan has no float.
-use Rattle.std.proofs.Common.{◌≡◌, ℕ, Bool, false, List, length, codes, refl, ap, ◌∙◌}
+use Rattle.std.proofs.Common.{◌≡◌, ℕ, false, List, length, codes, refl, ap, ◌∙◌}
 use Rattle.serde_json.specs.Data.{Data, Members, put, no_members}
 use Rattle.serde_json.specs.Written.{has_float, members_have_float}
 use Rattle.loom_json.proofs.Floats.{members_have_float-put}

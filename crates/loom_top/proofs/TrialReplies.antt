@@ -1,23 +1,18 @@
 -- What a summary and a stop reply to a trial.
-use Rattle.std.proofs.Common.{◌≡◌, ◌≢◌, ℕ, List, Result, Ok, Err, sym, ap, subst, ◌∙◌, refl, IfOk}
+use Rattle.std.proofs.Common.{◌≡◌, ℕ, List, Result, Ok, Err, sym, subst, IfOk}
 use Rattle.std.specs.Prelude.{⊤}
 use Rattle.loom_json.specs.Text.{line_of}
 use Rattle.loom_project.specs.declared.draft.Draft.{Draft}
 use Rattle.loom_project.specs.declared.fault.ProjectFault.{ProjectFault}
-use Rattle.loom_project.specs.declared.fault.ProjectFault.TheVariants as faults
 use Rattle.loom_project.specs.Sound.{draft_check}
 use Rattle.loom_types.specs.declared.plan.Plan.{Plan}
-use Rattle.loom_types.specs.declared.stop.PlanStop.{PlanStop}
-use Rattle.loom_types.specs.declared.stop.PlanStop.TheVariants as stops
 use Rattle.loom_active.specs.RightPlan.{IsRight}
-use Rattle.loom_answer.specs.Stops.{IsNameable, named_of}
-use Rattle.loom_plan.specs.FirstStop.{FirstStop, HasPlan}
 use Rattle.loom_plan.specs.PlanOf.{IsPlanOf}
 use Rattle.loom_plan.specs.StopsLaw.{PlanExcludesStops}
 use Rattle.loom_trial.specs.Trial.{trial_draft}
 use Rattle.loom_top.specs.Refusals.{refusal_shown}
 use Rattle.loom_top.specs.RepliesInside.{IsStopReply}
-use Rattle.loom_top.specs.Trials.{summary_shown, IsSummary, StopsTrial, IsTrialRefusal, HasSummary, IsTrialReply}
+use Rattle.loom_top.specs.Trials.{summary_shown, StopsTrial, IsTrialRefusal, HasSummary, IsTrialReply}
 use Rattle.loom_top.specs.declared.reply.Reply.{Reply}
 use Rattle.loom_top.specs.declared.reply.ReplyKind.{ReplyKind}
 use Rattle.loom_top.specs.declared.reply.ReplyKind.TheVariants as kinds

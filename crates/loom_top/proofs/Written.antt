@@ -15,7 +15,7 @@ use Rattle.loom_top.specs.declared.reply.ReplyKind.{ReplyKind}
 use Rattle.loom_top.specs.declared.reply.ReplyKind.TheVariants as kinds
 use Rattle.loom_top.specs.declared.status.Status.{Status}
 use Rattle.loom_top.specs.declared.status.Status.TheVariants as status
-use Rattle.loom_top.proofs.AskedWords.{asks_job, plan_is_not_extract, plan_is_not_trial, extract_is_not_trial, same_trial}
+use Rattle.loom_top.proofs.AskedWords.{asks_job, plan_is_not_extract, plan_is_not_check, extract_is_not_check, plan_is_not_trial, extract_is_not_trial, check_is_not_trial, same_trial}
 
 done_is_not_cut : status.Done ≢ status.WriteFault
 done_is_not_cut e = absurd (cc)
@@ -113,6 +113,7 @@ module _ (rules : List Asked) (words : List (List ℕ)) (left old new : Option (
   plan_writes meant writes = record {
     plan = λ asked. writes;
     extract = λ asked. absurd (plan_is_not_extract (asks_job words jobs.Plan meant jobs.Extract asked));
+    check = λ asked. absurd (plan_is_not_check (asks_job words jobs.Plan meant jobs.Check asked));
     trial = λ n asked. absurd (plan_is_not_trial n (asks_job words jobs.Plan meant (jobs.Trial n) asked));
   }
 
@@ -121,7 +122,17 @@ module _ (rules : List Asked) (words : List (List ℕ)) (left old new : Option (
   extract_writes meant writes = record {
     plan = λ asked. absurd (plan_is_not_extract (sym (asks_job words jobs.Extract meant jobs.Plan asked)));
     extract = λ asked. writes;
+    check = λ asked. absurd (extract_is_not_check (asks_job words jobs.Extract meant jobs.Check asked));
     trial = λ n asked. absurd (extract_is_not_trial n (asks_job words jobs.Extract meant (jobs.Trial n) asked));
+  }
+
+  pub check_writes : job_in (subcommand_of loom_app words) ≡ Some jobs.Check
+      → IfSome left (λ input. WritesBy (IsReply rules documents.Check input) old new s) → WritesAsAsked rules words left old new s
+  check_writes meant writes = record {
+    plan = λ asked. absurd (plan_is_not_check (sym (asks_job words jobs.Check meant jobs.Plan asked)));
+    extract = λ asked. absurd (extract_is_not_check (sym (asks_job words jobs.Check meant jobs.Extract asked)));
+    check = λ asked. writes;
+    trial = λ n asked. absurd (check_is_not_trial n (asks_job words jobs.Check meant (jobs.Trial n) asked));
   }
 
   pub trial_writes : (trial : ℕ) → job_in (subcommand_of loom_app words) ≡ Some (jobs.Trial trial)
@@ -129,6 +140,7 @@ module _ (rules : List Asked) (words : List (List ℕ)) (left old new : Option (
   trial_writes trial meant writes = record {
     plan = λ asked. absurd (plan_is_not_trial trial (sym (asks_job words (jobs.Trial trial) meant jobs.Plan asked)));
     extract = λ asked. absurd (extract_is_not_trial trial (sym (asks_job words (jobs.Trial trial) meant jobs.Extract asked)));
+    check = λ asked. absurd (check_is_not_trial trial (sym (asks_job words (jobs.Trial trial) meant jobs.Check asked)));
     trial = λ n asked.
         subst (λ (m : ℕ). WritesBy (IsTrialReply m) old new s) (same_trial trial n (asks_job words (jobs.Trial trial) meant (jobs.Trial n) asked)) writes;
   }
@@ -137,6 +149,7 @@ module _ (rules : List Asked) (words : List (List ℕ)) (left old new : Option (
   silent_writes silent = record {
     plan = λ asked. writes_nothing_of (IsReply rules documents.Plan) left old new s silent;
     extract = λ asked. writes_nothing_of (IsReply rules documents.Extract) left old new s silent;
+    check = λ asked. writes_nothing_of (IsReply rules documents.Check) left old new s silent;
     trial = λ n asked. writes_nothing (IsTrialReply n) old new s silent;
   }
 
@@ -155,3 +168,15 @@ pub done_is_no_refusal : (s : Status) (kind : ReplyKind) (P : Type 0) → (s ≢
     → kind ≢ kinds.Refused
 done_is_no_refusal s kind P whole done refuses =
     refused_is_not_done s done ((whole (done_uncut s done)).0 ∙ ap status_of refuses)
+
+no_is_not_done : (s : Status) → s ≡ status.CheckedNo → s ≡ status_of kinds.Refused → ⊥
+no_is_not_done s denied refused = absurd (cc)
+
+no_uncut : (s : Status) → s ≡ status.CheckedNo → s ≢ status.WriteFault
+no_uncut s denied e = absurd (cc)
+
+-- nor does one that was written with the status of a denial
+pub denial_is_no_refusal : (s : Status) (kind : ReplyKind) (P : Type 0) → (s ≢ status.WriteFault → (s ≡ status_of kind) × P) → s ≡ status.CheckedNo
+    → kind ≢ kinds.Refused
+denial_is_no_refusal s kind P whole denied refuses =
+    no_is_not_done s denied ((whole (no_uncut s denied)).0 ∙ ap status_of refuses)

@@ -20,7 +20,9 @@ use Rattle.loom_reader.specs.declared.document.Document.{Document}
 use Rattle.loom_reader.specs.declared.want.Want.{Want}
 use Rattle.loom_reader.specs.declared.want.Want.TheVariants as wants
 use Rattle.loom_top.specs.Entries.{fresh, project_after, AreOutcomes}
+use Rattle.loom_check.specs.Verdict.{PassesAll}
 use Rattle.loom_top.specs.Variants.{variant_shown}
+use Rattle.loom_top.specs.Verdicts.{IsYesAnswer, IsNoAnswer, IsUnjudged}
 use Rattle.loom_top.specs.declared.job.DocumentJob.{DocumentJob}
 use Rattle.loom_top.specs.declared.job.DocumentJob.TheVariants as jobs
 use Rattle.loom_top.specs.declared.refusal.Refusal.{Refusal}
@@ -30,13 +32,15 @@ use Rattle.loom_top.specs.declared.refusal.Refusal.TheVariants as refusals
 abbrev pub want_of : DocumentJob → Want
 want_of jobs.Plan = wants.Plan
 want_of jobs.Extract = wants.Extract
+want_of jobs.Check = wants.Check
 
 -- the values of a choice of the project's options obey its rules
 abbrev pub Obeys : Draft → List Bool → Type 0
 Obeys project values = first_false project.rules project.options (choice_at values) ≡ None
 
 -- why a document is refused after it was read: planning its project, as its entries leave it, stops, and the first stop is told by that
--- project's names; a name makes no choice of that project's options; or the choice breaks a rule of it, and the first one is told
+-- project's names; a name makes no choice of that project's options; or the choice breaks a rule of it, and the first one is told; or the
+-- judging of its plan stops, and the stop is told by the project's names
 abbrev pub IsRefused : DocumentJob → Document → Refusal → Type 0
 IsRefused jobs.Plan document (refusals.Plan named) =
     (stop : PlanStop) × FirstStop (project_after document) stop × IsNameable (project_after document) stop
@@ -49,6 +53,9 @@ IsRefused jobs.Extract document (refusals.Choice fault) =
 IsRefused jobs.Extract document (refusals.BrokenRule rule) =
     (values : List Bool) × (choice_of (project_after document).options document.choice ≡ Ok values)
     × (first_false (project_after document).rules (project_after document).options (choice_at values) ≡ Some rule)
+IsRefused jobs.Check document (refusals.Plan named) = IsUnjudged document named
+IsRefused jobs.Check document (refusals.Choice fault) = ⊥
+IsRefused jobs.Check document (refusals.BrokenRule rule) = ⊥
 IsRefused job document refusals.TooLong = ⊥
 IsRefused job document refusals.NotJson = ⊥
 IsRefused job document (refusals.WrongShape path) = ⊥
@@ -61,6 +68,7 @@ HasAnswer jobs.Plan document = HasPlan (project_after document)
 HasAnswer jobs.Extract document =
     (values : List Bool) × (choice_of (project_after document).options document.choice ≡ Ok values)
     × Obeys (project_after document) values
+HasAnswer jobs.Check document = (plan : Plan) × (document.plan ≡ Some plan) × PassesAll (project_after document) plan
 
 -- the line has what became of each entry, a plan of the document's project after them, which is right, that project, and for each rule
 -- under the document's limits the report over the plan's wires
@@ -88,3 +96,10 @@ pub record IsVariantAnswer (document : Document) (line : List ℕ) : Type 0 wher
 abbrev pub IsAnswer : List Asked → DocumentJob → Document → List ℕ → Type 0
 IsAnswer rules jobs.Plan document line = IsPlanAnswer rules document line
 IsAnswer rules jobs.Extract document line = IsVariantAnswer document line
+IsAnswer rules jobs.Check document line = IsYesAnswer document line
+
+-- the line says no to a document; only judging does
+abbrev pub IsDenial : DocumentJob → Document → List ℕ → Type 0
+IsDenial jobs.Plan document line = ⊥
+IsDenial jobs.Extract document line = ⊥
+IsDenial jobs.Check document line = IsNoAnswer document line

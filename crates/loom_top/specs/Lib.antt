@@ -1,5 +1,6 @@
 pub mod Refusals
 pub mod Variants
+pub mod Verdicts
 pub mod Entries
 pub mod Jobs
 pub mod Replies

@@ -1,15 +1,19 @@
 -- Which bytes a job accepts, why it refuses the others, and which line replies to them.
-use Rattle.std.specs.Prelude.{ℕ, List, None, Ok, Err, ◌≡◌, ◌<◌, ◌≤◌, length}
+use Rattle.std.specs.Prelude.{ℕ, List, Some, None, Ok, Err, ◌≡◌, ◌<◌, ◌≤◌, length}
 use Rattle.loom_base.specs.declared.limits.Which.{Which}
 use Rattle.loom_json.specs.Text.{read_json, line_of}
 use Rattle.loom_project.specs.declared.fault.ProjectFault.{ProjectFault}
 use Rattle.loom_rules.specs.Judged.{Asked}
+use Rattle.loom_types.specs.declared.plan.Plan.{Plan}
 use Rattle.loom_reader.specs.declared.document.Document.{Document}
 use Rattle.loom_reader.specs.declared.fault.ReadFault.TheVariants as faults
 use Rattle.loom_reader.specs.Document.{document_of}
 use Rattle.loom_top.specs.Refusals.{refusal_shown}
-use Rattle.loom_top.specs.Jobs.{want_of, IsRefused, HasAnswer, IsAnswer}
+use Rattle.loom_top.specs.Entries.{project_after}
+use Rattle.loom_top.specs.Jobs.{want_of, IsRefused, HasAnswer, IsAnswer, IsDenial}
+use Rattle.loom_top.specs.Verdicts.{IsOwn}
 use Rattle.loom_top.specs.declared.job.DocumentJob.{DocumentJob}
+use Rattle.loom_top.specs.declared.job.DocumentJob.TheVariants as jobs
 use Rattle.loom_top.specs.declared.refusal.Refusal.{Refusal}
 use Rattle.loom_top.specs.declared.reply.ReplyKind.{ReplyKind}
 use Rattle.loom_top.specs.declared.reply.ReplyKind.TheVariants as kinds
@@ -39,9 +43,17 @@ pub record Accepts (job : DocumentJob) (input : List ℕ) : Type 0 where
   pub read : IsRead job input document
   pub has_answer : HasAnswer job document
 
--- the line replies to the bytes: they are accepted and it is an answer, or they are refused and it says why
+-- the bytes are a document whose plan is what planning its project after the entries answers
+pub record HasOwnPlan (input : List ℕ) : Type 0 where
+  pub document : Document
+  pub read : IsRead jobs.Check input document
+  pub plan : Plan
+  pub printed : document.plan ≡ Some plan
+  pub own : IsOwn (project_after document) plan
+
+-- the line replies to the bytes: they are accepted and it is an answer; or it says no to their plan; or they are refused and it says why
 abbrev pub IsReply : List Asked → DocumentJob → List ℕ → ReplyKind → List ℕ → Type 0
 IsReply rules job input kinds.Done line = (accepted : Accepts job input) × IsAnswer rules job accepted.document line
-IsReply rules job input kinds.CheckedNo line = ⊥
+IsReply rules job input kinds.CheckedNo line = (document : Document) × IsRead job input document × IsDenial job document line
 IsReply rules job input kinds.Refused line =
     (refusal : Refusal) × Refuses job input refusal × (line ≡ line_of (refusal_shown refusal))

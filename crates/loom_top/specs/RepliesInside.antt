@@ -54,6 +54,16 @@ abbrev pub RepliesToParts : List Asked → ℕ → Draft → List Entry → List
 RepliesToParts rules version draft entries limits reply =
     (document : Document) → HasParts document version draft entries limits → IsReplyTo rules jobs.Plan document reply
 
+-- the document's project after its entries, and its plan
+pub record HasJudged (document : Document) (draft : Draft) (plan : Plan) : Type 0 where
+  pub draft_is : project_after document ≡ draft
+  pub plan_is : document.plan ≡ Some plan
+
+-- the reply under `check`, whichever rules there are, to each document that has these
+abbrev pub RepliesToPlan : Draft → Plan → Reply → Type 0
+RepliesToPlan draft plan reply =
+    (document : Document) → HasJudged document draft plan → (rules : List Asked) → IsReplyTo rules jobs.Check document reply
+
 -- the document's project after its entries, its plan and the names of its choice
 pub record HasChoice (document : Document) (draft : Draft) (plan : Plan) (names : List (List ℕ)) : Type 0 where
   pub draft_is : project_after document ≡ draft

@@ -38,21 +38,15 @@ pub record AskFor (job : Job) (words : List (List ℕ)) : Type 0 where
   pub taken : takes loom_app words ≡ true
   pub meant : job_in (subcommand_of loom_app words) ≡ Some job
 
--- the jobs that are built: `check` isn't yet
-abbrev pub IsBuilt : Job → Type 0
-IsBuilt jobs.Plan = Unit {0}
-IsBuilt jobs.Extract = Unit {0}
-IsBuilt jobs.Check = ⊥
-IsBuilt (jobs.Trial number) = Unit {0}
-
--- the words ask for some job that is built
+-- the words ask for some job
 abbrev pub Ask : List (List ℕ) → Type 0
-Ask words = (job : Job) × AskFor job words × IsBuilt job
+Ask words = (job : Job) × AskFor job words
 
 -- the words ask for a job with a document
 abbrev pub AskForDocument : DocumentJob → List (List ℕ) → Type 0
 AskForDocument documents.Plan words = AskFor jobs.Plan words
 AskForDocument documents.Extract words = AskFor jobs.Extract words
+AskForDocument documents.Check words = AskFor jobs.Check words
 
 -- a line of this kind was written whole
 pub record Writes (IsLine : List ℕ → Type 0) (old new : Option (List ℕ)) : Type 0 where
@@ -78,6 +72,7 @@ pub record WritesBy (IsLine : ReplyKind → List ℕ → Type 0) (old new : Opti
 pub record WritesAsAsked (rules : List Asked) (words : List (List ℕ)) (left old new : Option (List ℕ)) (status : Status) : Type 0 where
   pub plan : AskFor jobs.Plan words → IfSome left (λ input. WritesBy (IsReply rules documents.Plan input) old new status)
   pub extract : AskFor jobs.Extract words → IfSome left (λ input. WritesBy (IsReply rules documents.Extract input) old new status)
+  pub check : AskFor jobs.Check words → IfSome left (λ input. WritesBy (IsReply rules documents.Check input) old new status)
   pub trial : (number : ℕ) → AskFor (jobs.Trial number) words → WritesBy (IsTrialReply number) old new status
 
 -- the answers under which nothing was written

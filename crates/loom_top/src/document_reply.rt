@@ -11,12 +11,13 @@ use crate::plan_reply::plan_reply;
 use crate::refusal::Refusal;
 use crate::reply::{Reply, ReplyKind};
 use crate::variant_reply::variant_reply;
+use crate::verdict_reply::verdict_reply;
 use loom_base::NoMemory;
 use loom_reader::{Document, ReadFault, read};
 use loom_rules::DesignRule;
 use std::alloc::Global;
 
-/// The reply to a document that was read for a job. Under `Extract` it has a plan.
+/// The reply to a document that was read for a job. Under `Extract` and `Check` it has a plan.
 fn answered(
     alloc: Global,
     job: DocumentJob,
@@ -32,6 +33,7 @@ fn answered(
     match job {
         DocumentJob::Plan => plan_reply(alloc, document, rules),
         DocumentJob::Extract => variant_reply(alloc, document),
+        DocumentJob::Check => verdict_reply(alloc, document),
     }
 }
 

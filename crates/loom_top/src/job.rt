@@ -10,6 +10,8 @@ pub enum DocumentJob {
     Plan,
     /// Takes the wires of one choice out of the document's plan.
     Extract,
+    /// Judges the document's plan.
+    Check,
 }
 
 impl DocumentJob {
@@ -20,6 +22,7 @@ impl DocumentJob {
         match self {
             DocumentJob::Plan => Want::Plan,
             DocumentJob::Extract => Want::Extract,
+            DocumentJob::Check => Want::Check,
         }
     }
 }

@@ -17,6 +17,8 @@ mod tests;
 mod trial_reply;
 mod variant;
 mod variant_reply;
+mod verdict;
+mod verdict_reply;
 
 pub use program::run;
 pub use status::Status;

@@ -1,5 +1,5 @@
 //! The one call that is all the program does.
-ghost use Rattle.std.specs.Prelude.{◌≡◌, ◌≢◌, ◌≤◌, ◌⊎◌, ℕ, List, [], map, string_bytes, true, false, Some, IfOk, IfSome};
+ghost use Rattle.std.specs.Prelude.{◌≡◌, ◌≢◌, ◌≤◌, ℕ, List, [], map, string_bytes, true, false, Some, IfOk, IfSome};
 ghost use Rattle.std.specs.List.{All};
 ghost use Rattle.std.specs.Io.KnownBytes.{Appends, IsAtEnd};
 ghost use Rattle.clap.specs.Words.{takes};
@@ -8,8 +8,8 @@ ghost use Rattle.loom_base.specs.Streams.{AppendsPart, TakesAtMost};
 ghost use Rattle.loom_words.specs.Command.{loom_app};
 ghost use Rattle.loom_words.specs.Jobs.{IsNamed};
 ghost use Rattle.loom_words.specs.declared.job.Job.TheVariants as jobs;
-ghost use Rattle.loom_top.specs.Replies.{Accepts, IsReply};
-ghost use Rattle.loom_top.specs.Run.{status_of, Ask, AskFor, AskForDocument, IsBuilt, WritesBy, WritesAsAsked, IsSilent, IsDoneOrNoMemory};
+ghost use Rattle.loom_top.specs.Replies.{Accepts, HasOwnPlan, IsReply};
+ghost use Rattle.loom_top.specs.Run.{status_of, Ask, AskFor, AskForDocument, WritesBy, WritesAsAsked, IsSilent, IsDoneOrNoMemory};
 ghost use Rattle.loom_top.specs.Trials.{HasSummary, IsTrialReply};
 
 use crate::Status;
@@ -17,6 +17,7 @@ use crate::document_reply::{reply_to, too_long};
 use crate::job::DocumentJob;
 use crate::reply::{Reply, ReplyKind};
 use crate::trial_reply::trial_reply;
+use loom_accord::passing_is_yes;
 use loom_base::{MAX_INPUT_BYTES, NoMemory, ReadStop, Sink, Source, read_all, write_all};
 use loom_plan::stop_laws::plan_excludes_stops;
 use loom_rules::DesignRule;
@@ -76,6 +77,7 @@ fn with_document<S: Source, K: Sink>(
         job input) (K.held sink.old) (K.held sink.new) result) }
     ensures understood { result ≢ Status.Usage }
     ensures at_end { result ≡ Status.Done → IsAtEnd (S.left source.new) }
+    ensures no_at_end { result ≡ Status.CheckedNo → IsAtEnd (S.left source.new) }
     ensures read_fault { result ≡ Status.ReadFault
         → Rose (S.faults source.old) (S.faults source.new) }
     ensures write_fault { result ≡ Status.WriteFault
@@ -87,8 +89,12 @@ fn with_document<S: Source, K: Sink>(
     ensures complete { (input : List ℕ) → S.left source.old ≡ Some input → Accepts job input
         → ¬ Rose (S.faults source.old) (S.faults source.new)
         → ¬ Rose (K.faults sink.old) (K.faults sink.new) → IsDoneOrNoMemory result }
+    ensures own { (input : List ℕ) → job ≡ DocumentJob.Check → S.left source.old ≡ Some input
+        → HasOwnPlan input → ¬ Rose (S.faults source.old) (S.faults source.new)
+        → ¬ Rose (K.faults sink.old) (K.faults sink.new) → IsDoneOrNoMemory result }
 {
     plan_excludes_stops();
+    passing_is_yes();
     match replied(alloc, job, source, rules) {
         Ok(reply) => written(sink, &reply),
         Err(ReadStop::NoMemory) => Status::NoMemory,
@@ -119,19 +125,21 @@ fn with_trial<K: Sink>(alloc: Global, trial: u32, sink: &mut K) -> Status
 /// Does the job that the words ask for, and writes one line to the sink: what `WritesAsAsked` says
 /// under each command. The words are read with clap, by its definition of the program's command.
 ///
-/// `plan` and `extract` read a document from the source, and apply its edits in their order. Under
+/// `plan`, `extract` and `check` read a document from the source, and apply its edits in their order. Under
 /// `plan` the line has what became of each, a plan of the project after them and the reports of the
 /// design rules over its wires; the i-th rule gets the document's i-th limit, and a rule past the
 /// last limit keeps its own. Under `extract` it has the wires of the document's plan that its
-/// choice makes live; what became of the edits isn't printed, and no price is worked out. `trial`
-/// reads nothing: its line sums up the plan of the trial project of its number. Or the line says
-/// why there is no such line. `check` isn't built yet. The rules are dropped at the end.
+/// choice makes live; what became of the edits isn't printed, and no price is worked out. Under
+/// `check` it says whether the document's plan passes all nine rules for its project after the
+/// edits, and is right then, or which rule fails first, and where; what planning that project
+/// answers always passes. `trial` reads nothing: its line sums up the plan of the trial project of
+/// its number. Or the line says why there is no such line. The rules are dropped at the end.
 ///
 /// The line is made whole before the first write. `Usage` comes only where clap's definition
-/// doesn't take the words, or means `check` by them, and never for the words that documents name
-/// (`IsNamed`) but for that. `ReadFault` and `WriteFault` come only where the count of faults of
-/// the source or the sink rose. What a job accepts is `Done` where no count rose, unless memory ran
-/// out. At most 67,108,865 bytes are taken.
+/// doesn't take the words, and never for the words that documents name (`IsNamed`). `ReadFault` and
+/// `WriteFault` come only where the count of faults of the source or the sink rose. What a job
+/// accepts is `Done` where no count rose, unless memory ran out. At most 67,108,865 bytes are
+/// taken.
 pub fn run<S: Source, K: Sink>(
     alloc: Global,
     words: &[String],
@@ -144,14 +152,16 @@ pub fn run<S: Source, K: Sink>(
         (map (λ rule. record { kind = kind_of rule; limit = limit_of rule }) rules.items)
         (map string_bytes words.now) (S.left source.old) (K.held sink.old) (K.held sink.new)
         result }
-    ensures usage { result ≡ Status.Usage → (takes loom_app (map string_bytes words.now) ≡ false)
-        ⊎ AskFor jobs.Check (map string_bytes words.now) }
-    ensures taken { (job : _) → IsNamed (map string_bytes words.now) job → IsBuilt job
+    ensures usage { result ≡ Status.Usage
+        → takes loom_app (map string_bytes words.now) ≡ false }
+    ensures taken { (job : _) → IsNamed (map string_bytes words.now) job
         → result ≢ Status.Usage }
     ensures asked { result ≢ Status.Usage → result ≢ Status.NoMemory
         → Ask (map string_bytes words.now) }
     ensures at_end { (job : _) → AskForDocument job (map string_bytes words.now)
         → result ≡ Status.Done → IsAtEnd (S.left source.new) }
+    ensures no_at_end { (job : _) → AskForDocument job (map string_bytes words.now)
+        → result ≡ Status.CheckedNo → IsAtEnd (S.left source.new) }
     ensures read_fault { result ≡ Status.ReadFault
         → Rose (S.faults source.old) (S.faults source.new) }
     ensures write_fault { result ≡ Status.WriteFault
@@ -169,6 +179,10 @@ pub fn run<S: Source, K: Sink>(
         → S.left source.old ≡ Some input → Accepts job input
         → ¬ Rose (S.faults source.old) (S.faults source.new)
         → ¬ Rose (K.faults sink.old) (K.faults sink.new) → IsDoneOrNoMemory result }
+    ensures own { (input : List ℕ) → AskFor jobs.Check (map string_bytes words.now)
+        → S.left source.old ≡ Some input → HasOwnPlan input
+        → ¬ Rose (S.faults source.old) (S.faults source.new)
+        → ¬ Rose (K.faults sink.old) (K.faults sink.new) → IsDoneOrNoMemory result }
     ensures trial_complete { (trial : ℕ)
         → AskFor (jobs.Trial trial) (map string_bytes words.now) → HasSummary trial
         → ¬ Rose (K.faults sink.old) (K.faults sink.new) → IsDoneOrNoMemory result }
@@ -178,8 +192,7 @@ pub fn run<S: Source, K: Sink>(
         Ok(Job::Plan) => with_document(alloc, DocumentJob::Plan, source, sink, &mut rules),
         Ok(Job::Extract) => with_document(alloc, DocumentJob::Extract, source, sink, &mut rules),
         Ok(Job::Trial(trial)) => with_trial(alloc, trial, sink),
-        // The checker isn't built yet.
-        Ok(Job::Check) => Status::Usage,
+        Ok(Job::Check) => with_document(alloc, DocumentJob::Check, source, sink, &mut rules),
         Err(WordsStop::Usage) => Status::Usage,
         Err(WordsStop::NoMemory) => Status::NoMemory,
     }

@@ -10,7 +10,7 @@ use loom_types::PlanStop;
 use std::alloc::Global;
 
 /// Whether memory ran out.
-fn is_want_of_memory(stop: &PlanStop) -> bool
+pub fn is_want_of_memory(stop: &PlanStop) -> bool
     ensures { IsTrue result ↔ (stop.now ≡ PlanStop.NoMemory) }
 {
     matches!(stop, PlanStop::NoMemory)

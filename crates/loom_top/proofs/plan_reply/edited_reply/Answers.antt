@@ -1,6 +1,4 @@
-use Rattle.std.proofs.Common.{sym, subst}
-use Rattle.loom_plan.specs.FirstStop.{FirstStop}
-use Rattle.loom_top.proofs.PlanReplies.{project_between, edited_replies, edited_stops}
+use Rattle.loom_top.proofs.PlanReplies.{edited_replies, edited_stops}
 use Rattle.loom_top.proofs.plan_reply.edited_reply.Goals as goal
 
 pub returns-in-Ok : goal.returns-in-Ok

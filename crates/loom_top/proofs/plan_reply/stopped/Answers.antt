@@ -1,4 +1,3 @@
-use Rattle.loom_answer.specs.Stops.{IsNameable}
 use Rattle.loom_top.proofs.PlanReplies.{stop_reply}
 use Rattle.loom_top.proofs.plan_reply.stopped.Goals as goal
 

@@ -1,4 +1,4 @@
-use Rattle.std.proofs.Common.{rules, ℕ, List}
+use Rattle.std.proofs.Common.{rules}
 use Rattle.loom_top.specs.RepliesInside.{RepliesToChoice}
 use Rattle.loom_top.specs.declared.refusal.Refusal.TheVariants.{Choice}
 use Rattle.loom_top.specs.declared.job.DocumentJob.TheVariants.{Extract}

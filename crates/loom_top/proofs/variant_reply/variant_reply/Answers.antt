@@ -1,4 +1,3 @@
-use Rattle.std.proofs.Common.{sym}
 use Rattle.loom_top.proofs.PlanReplies.{new_over}
 use Rattle.loom_top.proofs.Variants.{made_choice, replies_to_it}
 use Rattle.loom_top.proofs.variant_reply.variant_reply.Goals as goal
